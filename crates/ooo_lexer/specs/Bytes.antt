@@ -1,0 +1,30 @@
+-- Classes of bytes, each a test. Letters and digits are those of the basic source character set (ISO/IEC 14882, [lex.charset]).
+use Rattle.std.specs.Prelude.{ℕ, Bool, not, ◌||◌, ◌&&◌, ◌==◌, nat_le}
+
+-- a tab, a line feed, a carriage return or a blank: what parts tokens ([lex.token])
+abbrev pub is_space : ℕ → Bool
+is_space b = b == 9 || b == 10 || b == 13 || b == 32
+
+-- a tab, a carriage return or a blank: what may stand between the parts of a directive ([cpp])
+abbrev pub is_blank : ℕ → Bool
+is_blank b = b == 9 || b == 13 || b == 32
+
+-- a decimal digit ([lex.icon])
+abbrev pub is_digit : ℕ → Bool
+is_digit b = nat_le 48 b && nat_le b 57
+
+-- a letter or `_`: what begins a word ([lex.name])
+abbrev pub begins_word : ℕ → Bool
+begins_word b = (nat_le 97 b && nat_le b 122) || (nat_le 65 b && nat_le b 90) || b == 95
+
+-- a letter, a digit or `_`: what goes on with a word
+abbrev pub is_word_byte : ℕ → Bool
+is_word_byte b = begins_word b || is_digit b
+
+-- any byte but a line feed, a carriage return, a double quote and a backslash: what stands between a text's quotes ([lex.string])
+abbrev pub is_text_byte : ℕ → Bool
+is_text_byte b = not (b == 10 || b == 13 || b == 34 || b == 92)
+
+-- any byte but a line feed: what stands on a line
+abbrev pub is_line_byte : ℕ → Bool
+is_line_byte b = not (b == 10)

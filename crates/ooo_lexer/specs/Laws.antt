@@ -1,0 +1,25 @@
+-- What holds of every source.
+use Rattle.std.specs.Prelude.{◌≡◌, ℕ, List, All, map}
+use Rattle.ooo_lexer.specs.declared.token.Token.{Token}
+use Rattle.ooo_lexer.specs.Pieces.{Piece, Cuts, lexemes}
+use Rattle.ooo_lexer.specs.Spans.{AreTokensOf, IsWithin, AreInOrder, lexeme_at}
+
+-- two cuttings of one source are the same
+abbrev pub IsCutOneWay : Type 0
+IsCutOneWay = (source : List ℕ) (pieces others : List Piece) → Cuts source pieces → Cuts source others → pieces ≡ others
+
+-- a source has one list of tokens at most
+abbrev pub HasOneTokenList : Type 0
+HasOneTokenList = (source : List ℕ) (tokens others : List Token) → AreTokensOf source tokens → AreTokensOf source others → tokens ≡ others
+
+-- the spans of a source's tokens lie within it
+abbrev pub SpansAreWithin : Type 0
+SpansAreWithin = (source : List ℕ) (tokens : List Token) → AreTokensOf source tokens → All (IsWithin source) tokens
+
+-- the spans of a source's tokens are in order, and none overlaps another
+abbrev pub SpansAreInOrder : Type 0
+SpansAreInOrder = (source : List ℕ) (tokens : List Token) → AreTokensOf source tokens → AreInOrder tokens
+
+-- the tokens with their spans' bytes are the lexemes of any cutting
+abbrev pub SpansAreLexemes : Type 0
+SpansAreLexemes = (source : List ℕ) (tokens : List Token) (pieces : List Piece) → AreTokensOf source tokens → Cuts source pieces → map (lexeme_at source) tokens ≡ lexemes pieces

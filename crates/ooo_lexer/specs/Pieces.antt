@@ -1,0 +1,74 @@
+-- The cutting of a source into pieces by the longest fit, as a relation on the whole source (ISO/IEC 14882, [lex.pptoken]).
+use Rattle.std.specs.Prelude.{◌≡◌, ℕ, ◌≤◌, Bool, false, List, [], ◌∷◌, ◌++◌, IsTrue, length}
+use Rattle.ooo_lexer.specs.declared.token.TokenKind.{TokenKind}
+use Rattle.ooo_lexer.specs.declared.token.TokenKind.TheVariants as kind
+use Rattle.ooo_lexer.specs.Bytes.{is_space, is_word_byte, is_line_byte}
+use Rattle.ooo_lexer.specs.Forms.{IsWord, IsNumber, IsText, IsSign, IsDirective}
+
+-- a token as a grammar sees it: its kind and how it is written ([lex.token])
+pub record Lexeme : Type 0 where
+  pub kind : TokenKind
+  pub bytes : List ℕ
+
+-- a space, a directive or a lexeme, of which the first two are skipped
+pub data Piece : Type 0 where
+  Space : (byte : ℕ) → Piece
+  Directive : (bytes : List ℕ) → Piece
+  Kept : (lexeme : Lexeme) → Piece
+
+-- how a piece is written
+abbrev pub bytes_of : Piece → List ℕ
+bytes_of (Space b) = b ∷ []
+bytes_of (Directive bs) = bs
+bytes_of (Kept l) = l.bytes
+
+-- bytes that make a token of a kind
+abbrev pub IsOfKind : TokenKind → List ℕ → Type 0
+IsOfKind kind.Word bs = IsWord bs
+IsOfKind kind.Number bs = IsNumber bs
+IsOfKind kind.Text bs = IsText bs
+IsOfKind kind.Sign bs = IsSign bs
+
+-- nothing follows, or a byte that fails the test
+abbrev pub StopsBefore : (ℕ → Bool) → List ℕ → Type 0
+StopsBefore test [] = Unit {0}
+StopsBefore test (b ∷ bs) = test b ≡ false
+
+-- no longer sign stands where this one does
+abbrev pub IsLongestSign : List ℕ → List ℕ → Type 0
+IsLongestSign bs rest = (longer after : List ℕ) → IsSign longer → bs ++ rest ≡ longer ++ after → length longer ≤ length bs
+
+-- the longest fit: a word and a number take all letters, digits and `_` that follow, a sign is the longest that fits, and a text ends with its quote
+abbrev pub IsLongest : TokenKind → List ℕ → List ℕ → Type 0
+IsLongest kind.Word bs rest = StopsBefore is_word_byte rest
+IsLongest kind.Number bs rest = StopsBefore is_word_byte rest
+IsLongest kind.Text bs rest = Unit {0}
+IsLongest kind.Sign bs rest = IsLongestSign bs rest
+
+-- a piece that may stand before the rest of a source: a directive takes the rest of its line
+abbrev pub StandsBefore : Piece → List ℕ → Type 0
+StandsBefore (Space b) rest = IsTrue (is_space b)
+StandsBefore (Directive bs) rest = IsDirective bs × StopsBefore is_line_byte rest
+StandsBefore (Kept l) rest = IsOfKind l.kind l.bytes × IsLongest l.kind l.bytes rest
+
+-- the pieces' bytes, one after another
+abbrev pub joined : List Piece → List ℕ
+joined [] = []
+joined (p ∷ ps) = bytes_of p ++ joined ps
+
+-- each piece may stand before those that follow it
+abbrev pub EachStands : List Piece → Type 0
+EachStands [] = Unit {0}
+EachStands (p ∷ ps) = StandsBefore p (joined ps) × EachStands ps
+
+-- the source is cut into these pieces
+pub record Cuts (source : List ℕ) (pieces : List Piece) : Type 0 where
+  pub whole : joined pieces ≡ source
+  pub fits : EachStands pieces
+
+-- the lexemes among the pieces, in order
+abbrev pub lexemes : List Piece → List Lexeme
+lexemes [] = []
+lexemes (Space b ∷ ps) = lexemes ps
+lexemes (Directive bs ∷ ps) = lexemes ps
+lexemes (Kept l ∷ ps) = l ∷ lexemes ps

@@ -1,0 +1,30 @@
+-- Where a token stands, by the bytes before it.
+use Rattle.std.specs.Prelude.{ℕ, ◌+◌, ◌==◌, List, [], ◌∷◌, ◌++◌, count_by, length}
+use Rattle.std.specs.List.{after_last}
+use Rattle.ooo_lexer.specs.declared.token.Token.{Token}
+use Rattle.ooo_lexer.specs.Pieces.{Lexeme, Piece, Space, Directive, Kept}
+
+-- the line after these bytes, from 1: one more than their line feeds
+abbrev pub line_after : List ℕ → ℕ
+line_after before = count_by (λ b. b == 10) before + 1
+
+-- the column after these bytes, in bytes from 1: one more than the bytes after their last line feed
+abbrev pub column_after : List ℕ → ℕ
+column_after before = length (after_last (λ b. b == 10) before) + 1
+
+-- the token of a lexeme that stands after these bytes
+abbrev pub token_after : List ℕ → Lexeme → Token
+token_after before l = record {
+  kind = l.kind;
+  start = length before;
+  end = length before + length l.bytes;
+  line = line_after before;
+  column = column_after before;
+}
+
+-- the tokens of pieces that stand after these bytes: spaces and directives give none
+abbrev pub placed : List ℕ → List Piece → List Token
+placed before [] = []
+placed before (Space b ∷ ps) = placed (before ++ b ∷ []) ps
+placed before (Directive bs ∷ ps) = placed (before ++ bs) ps
+placed before (Kept l ∷ ps) = token_after before l ∷ placed (before ++ l.bytes) ps

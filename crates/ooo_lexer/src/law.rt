@@ -1,0 +1,16 @@
+//! What holds of every source: functions that do nothing, whose clauses are laws of the definitions.
+
+ghost use Rattle.ooo_lexer.specs.Laws.{IsCutOneWay, HasOneTokenList, SpansAreWithin, SpansAreInOrder, SpansAreLexemes};
+
+/// A source is cut into pieces in one way at most, and so has one list of tokens at most (ISO/IEC 14882, [lex.pptoken]).
+pub fn one_cutting()
+    ensures pieces { IsCutOneWay }
+    ensures tokens { HasOneTokenList }
+{}
+
+/// The spans of a source's tokens: where they lie, and that their bytes are the lexemes.
+pub fn spans()
+    ensures within { SpansAreWithin }
+    ensures in_order { SpansAreInOrder }
+    ensures lexemes { SpansAreLexemes }
+{}

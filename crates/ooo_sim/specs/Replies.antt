@@ -1,0 +1,30 @@
+-- What the command `plain` answers to a text, and what it writes.
+use Rattle.std.specs.Prelude.{◌≡◌, ℕ, ◌<◌, ◌≤◌, List, codes, length}
+use Rattle.ooo_sim.specs.declared.model.ThreadModel.{ThreadModel}
+use Rattle.ooo_sim.specs.declared.reply.Reply.{Reply as Held}
+use Rattle.ooo_sim.specs.Sequence.{Result}
+use Rattle.ooo_sim.specs.Threads.{IsThreadRun, bodies_of, time_in}
+use Rattle.ooo_sim.specs.Texts.{IsTextOf}
+use Rattle.ooo_sim.specs.Report.{report_text}
+
+-- a status, and the text that is written
+pub record Answer : Type 0 where
+  pub status : ℕ
+  pub text : List ℕ
+
+abbrev pub answer : ℕ → List ℕ → Answer
+answer status text = record { status = status; text = text }
+
+-- the most bytes that a source may have
+abbrev pub most_bytes : ℕ
+most_bytes = 1048576
+
+-- the answer to a text: it is too long, or it is no model, or it is one and the answer is the report of its run
+pub data IsAnswer (text : List ℕ) (a : Answer) : Type 0 where
+  too_long : most_bytes < length text → a ≡ answer 8 (codes "refused source TooLong\n") → IsAnswer text a
+  no_model : length text ≤ most_bytes → ((m : ThreadModel) → IsTextOf text m → ⊥) → a ≡ answer 3 (codes "refused form NotBuilt\n") → IsAnswer text a
+  ran : length text ≤ most_bytes → (m : ThreadModel) (r : Result) → IsTextOf text m → IsThreadRun (bodies_of m) (time_in m.stop) r → a ≡ answer 0 (report_text r) → IsAnswer text a
+
+-- the answer that a reply in memory is
+abbrev pub answer_of : Held → Answer
+answer_of held = answer held.status held.text.items

@@ -1,0 +1,17 @@
+//! The program's calls: what a simulation reads, runs and writes.
+#![tactic(auto)]
+
+mod call;
+mod form;
+pub mod law;
+mod mark;
+mod model;
+mod names;
+mod pump;
+mod reply;
+mod report;
+mod reserved;
+mod run;
+mod walker;
+
+pub use call::{alone, simulate};
