@@ -240,6 +240,3 @@ fn sooner(a: Option<Time>, b: Option<Time>) -> Option<Time>
         (Some(x), Some(y)) => { if y.0 < x.0 { b } else { a } }
     }
 }
-
-#[cfg(test)]
-mod tests;
