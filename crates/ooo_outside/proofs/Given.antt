@@ -10,8 +10,7 @@ rest_whole i xs = take_all (length xs - i) (drop i xs) (omega (arith, length-dro
 pub given_bytes : (xs into : List ℕ) (given n most : ℕ) → given ≤ length xs → 1 ≤ most
     → n ≡ min most (min (length into) (length (drop given xs))) → take n into ≡ take n (drop given xs)
     → (drop given xs ≡ take n into ++ drop (given + n) xs) × (n ≡ 0 → 0 < length into → drop (given + n) xs ≡ [])
-given_bytes xs into given n most within positive count bytes =
-    (
-        sym (take-append-drop n (drop given xs)) ∙ ap (λ l. l ++ drop n (drop given xs)) (sym bytes) ∙ ap (λ l. take n into ++ l) (drop-drop n given xs),
-        λ zero room. drop_all (given + n) xs (omega (arith, length-drop given xs))
-    )
+given_bytes xs into given n most within positive count bytes = (
+  sym (take-append-drop n (drop given xs)) ∙ ap (λ l. l ++ drop n (drop given xs)) (sym bytes) ∙ ap (λ l. take n into ++ l) (drop-drop n given xs),
+  λ zero room. drop_all (given + n) xs (omega (arith, length-drop given xs)),
+)

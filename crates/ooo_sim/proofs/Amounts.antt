@@ -1,5 +1,5 @@
 -- Which digits and which name of a unit write a time.
-use Rattle.std.proofs.Common.{◌≡◌, ℕ, zero, suc, length, inl, inr, ◌/◌, ◌%◌, ◌+◌, ◌*◌, ◌<◌, ◌≤◌, ◌^◌, List, [], ◌∷◌, ◌++◌, Bool, true, false, Result, Ok, Err, get_or, if◌then◌else◌, ◌==◌, refl, sym, ap, ◌∙◌, arith, decimal}
+use Rattle.std.proofs.Common.{◌≡◌, ℕ, zero, suc, length, inl, inr, ◌/◌, ◌%◌, ◌+◌, ◌<◌, ◌≤◌, ◌^◌, List, [], ◌∷◌, false, Result, Ok, Err, get_or, if◌then◌else◌, ◌==◌, refl, sym, ap, ◌∙◌, arith, decimal}
 use Rattle.std.specs.Str.Parse.{ParsesUnsigned}
 use Rattle.std.specs.Str.{bytes_eq}
 use Rattle.std.specs.Fmt.{digits, digits_onto, digit_glyph}
@@ -11,9 +11,9 @@ use Rattle.std.proofs.lemmas.Slice.Eq.{bytes_eq-Decides}
 use Rattle.std.proofs.lemmas.Bool.{false≢true}
 use Rattle.ooo_time.specs.declared.time.Scale.{Scale}
 use Rattle.ooo_time.specs.declared.time.Scale.TheVariants as scale
-use Rattle.ooo_time.specs.Scales.{ticks_of, greatest_time}
+use Rattle.ooo_time.specs.Scales.{ticks_of}
 use Rattle.ooo_sim.specs.declared.model.Amount.{Amount}
-use Rattle.ooo_sim.specs.Fitting.{ticks_in, FitsAmount}
+use Rattle.ooo_sim.specs.Fitting.{FitsAmount}
 use Rattle.ooo_sim.specs.Spelling.{scale_name}
 
 -- what doesn't parse is no number's text

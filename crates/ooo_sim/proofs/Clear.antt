@@ -1,11 +1,10 @@
 -- What is spelled differently is different, part by part.
-use Rattle.std.proofs.Common.{◌≡◌, ℕ, ◌<◌, List, [], ◌∷◌, ◌++◌, length, get_or, drop, codes, decimal, refl, sym, ap, ◌∙◌, append_assoc, length-append, arith}
+use Rattle.std.proofs.Common.{◌≡◌, ℕ, ◌<◌, List, [], ◌∷◌, ◌++◌, length, get_or, drop, codes, decimal, refl, sym, ap, ◌∙◌, append_assoc, arith}
 use Rattle.std.proofs.lemmas.List.{append_cancel_right}
 use Rattle.ooo_lexer.specs.declared.token.TokenKind.{TokenKind}
 use Rattle.ooo_lexer.specs.declared.token.TokenKind.TheVariants as kind
 use Rattle.ooo_lexer.specs.Pieces.{Lexeme}
 use Rattle.ooo_sim.specs.declared.mark.Mark.TheVariants as mark
-use Rattle.ooo_sim.specs.declared.model.Amount.{Amount}
 use Rattle.ooo_sim.specs.declared.model.Function.{Function}
 use Rattle.ooo_sim.specs.declared.model.Item.{Item}
 use Rattle.ooo_sim.specs.declared.model.Item.TheVariants as item
@@ -15,7 +14,7 @@ use Rattle.ooo_sim.specs.Marks.{lexeme_of, marks, word, sign}
 use Rattle.ooo_sim.specs.Spelling.{quoted, number, scale_name, spell_amount, spell_item, spell_items, spell_statement, spell_statements, spell_function, spell_functions, spell_thread, spell_threads}
 use Rattle.ooo_sim.specs.Fitting.{FitsAmount, FitsStatement, FitStatements, FitFunctions}
 use Rattle.ooo_sim.proofs.Amounts.{same_amount, count_below}
-use Rattle.ooo_sim.proofs.Sequences.{joined, EachFits, Anything, each_fits, IsClear, IsApart, joined_same}
+use Rattle.ooo_sim.proofs.Sequences.{Anything, each_fits, IsClear, IsApart, joined_same}
 
 -- the first lexeme's kind and bytes
 abbrev pub first_kind : List Lexeme → TokenKind

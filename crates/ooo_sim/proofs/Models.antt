@@ -1,18 +1,16 @@
 -- A model is spelled in one way, and no other model is spelled so.
-use Rattle.std.proofs.Common.{◌≡◌, ℕ, List, [], ◌∷◌, ◌++◌, drop, decimal, refl, sym, ap, ◌∙◌, append_assoc}
+use Rattle.std.proofs.Common.{◌≡◌, ℕ, List, [], ◌∷◌, ◌++◌, drop, refl, sym, ap, ◌∙◌, append_assoc}
 use Rattle.std.proofs.lemmas.List.{append-nil}
 use Rattle.ooo_lexer.specs.Pieces.{Lexeme}
 use Rattle.ooo_sim.specs.declared.form.module.ModulePart.{ModulePart}
 use Rattle.ooo_sim.specs.declared.form.sc_main.BodyPart.{BodyPart}
 use Rattle.ooo_sim.specs.declared.form.sc_main.Parameters.{Parameters}
 use Rattle.ooo_sim.specs.declared.mark.Mark.TheVariants as mark
-use Rattle.ooo_sim.specs.declared.model.Amount.{Amount}
-use Rattle.ooo_sim.specs.declared.model.Function.{Function}
 use Rattle.ooo_sim.specs.declared.model.ThreadModel.{ThreadModel}
 use Rattle.ooo_sim.specs.Fitting.{FitFunctions, FitsAmount, FitsModel}
-use Rattle.ooo_sim.specs.Marks.{lexeme_of, marks, word}
+use Rattle.ooo_sim.specs.Marks.{lexeme_of, marks}
 use Rattle.ooo_sim.specs.Parts.{spell_constructor, HasModule, HasParameters, HasBody}
-use Rattle.ooo_sim.specs.Spelling.{quoted, number, spell_amount, spell_functions, spell_threads, spell_module, spell_head, spell_body, spell_model}
+use Rattle.ooo_sim.specs.Spelling.{number, spell_amount, spell_functions, spell_threads, spell_module, spell_head, spell_body, spell_model}
 use Rattle.ooo_sim.proofs.Clear.{first_bytes, amount_clear, quoted_same, functions_same, threads_same}
 
 pub record SameModule (m n : ThreadModel) (r s : List Lexeme) : Type 0 where

@@ -1,9 +1,7 @@
 -- Lists of names, and the references to them.
-use Rattle.std.proofs.Common.{◌≡◌, ℕ, zero, suc, ◌+◌, ◌<◌, Bool, true, false, not, ◌||◌, ◌&&◌, List, [], ◌∷◌, ◌++◌, length, map, take, drop, get_or, refl, sym, ap, ◌∙◌, arith, add-one, Bor, if◌then◌else◌}
+use Rattle.std.proofs.Common.{◌≡◌, ℕ, zero, suc, ◌+◌, ◌<◌, Bool, true, false, not, ◌||◌, ◌&&◌, List, [], ◌∷◌, ◌++◌, length, take, drop, get_or, refl, sym, ap, ◌∙◌, arith, add-one, Bor, if◌then◌else◌}
 use Rattle.std.specs.List.{list_any, list_all}
 use Rattle.std.specs.Str.{bytes_eq}
-use Rattle.std.proofs.lemmas.List.{drop_more}
-use Rattle.std.proofs.lemmas.Grind.{common_steps}
 use Rattle.ooo_sim.specs.declared.model.Function.{Function}
 use Rattle.ooo_sim.specs.Names.{has_name, differ_from, function_names, is_wait, is_registered}
 use Rattle.ooo_sim.specs.Bodies.{bytes_in}
@@ -68,10 +66,9 @@ module _ (names keys : List (Bor (List ℕ))) (i : ℕ) (d : Bor (List ℕ)) (al
       let lacks : list_any (λ y. bytes_eq (get_or names i d).now y.now) keys ≡ false = not_true (list_any (λ y. bytes_eq (get_or names i d).now y.now) keys) (sym taken ∙ is) in
       let lacks_name : has_name (bytes_in keys) (get_or names i d).now ≡ false = sym (name_any (bytes_eq (get_or names i d).now) keys) ∙ lacks in
       let longer : new ≡ keys ++ get_or names i d ∷ [] = keep ∙ ap (λ b. if b then keys else keys ++ get_or names i d ∷ []) lacks in
-      let named : bytes_in new ≡ bytes_in keys ++ (get_or names i d).now ∷ [] = ap bytes_in longer ∙ bytes_in-append keys (get_or names i d ∷ []) in
-      (
-          named ∙ ap (λ l. l ++ (get_or names i d).now ∷ []) before ∙ sym (take_name names i d lt),
-          same ∙ ap (differ_from (bytes_in keys)) (drop_name names i d lt) ∙ is_new (bytes_in keys) (get_or names i d).now (drop (i + 1) (bytes_in names)) lacks_name ∙ ap (λ l. differ_from l (drop (i + 1) (bytes_in names))) (sym named)
+      let named : bytes_in new ≡ bytes_in keys ++ (get_or names i d).now ∷ [] = ap bytes_in longer ∙ bytes_in-append keys (get_or names i d ∷ []) in (
+        named ∙ ap (λ l. l ++ (get_or names i d).now ∷ []) before ∙ sym (take_name names i d lt),
+        same ∙ ap (differ_from (bytes_in keys)) (drop_name names i d lt) ∙ is_new (bytes_in keys) (get_or names i d).now (drop (i + 1) (bytes_in names)) lacks_name ∙ ap (λ l. differ_from l (drop (i + 1) (bytes_in names))) (sym named),
       )
 
 pub name_all : (p : List ℕ → Bool) (names : List (Bor (List ℕ))) → list_all (λ name. p name.now) names ≡ list_all p (bytes_in names)

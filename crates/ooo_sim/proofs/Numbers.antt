@@ -1,6 +1,6 @@
 -- The numbers of functions, by their names.
-use Rattle.std.proofs.Common.{◌≡◌, ℕ, zero, suc, ◌+◌, ◌<◌, ◌≤◌, Bool, true, false, not, ◌||◌, List, [], ◌∷◌, ◌++◌, Option, Some, None, length, map, take, drop, refl, sym, ap, ◌∙◌, subst, arith, add-one, Bor, cond, if◌then◌else◌, nat_lt, is_some, add_comm, length-append, ltb-false}
-use Rattle.std.specs.List.{list_any, prefix_len, position, position_or_len}
+use Rattle.std.proofs.Common.{◌≡◌, ℕ, ◌+◌, ◌<◌, ◌≤◌, Bool, true, false, not, ◌||◌, List, [], ◌∷◌, ◌++◌, Option, Some, None, length, take, drop, refl, sym, ap, ◌∙◌, subst, arith, add-one, Bor, cond, if◌then◌else◌, nat_lt, add_comm, length-append, ltb-false}
+use Rattle.std.specs.List.{position, position_or_len}
 use Rattle.std.specs.Str.{bytes_eq}
 use Rattle.std.proofs.lemmas.List.{take-append-drop, length-map}
 use Rattle.ooo_sim.specs.declared.model.Function.{Function}

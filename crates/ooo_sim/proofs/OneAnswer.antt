@@ -1,5 +1,5 @@
 -- A text has one model at most, and one answer.
-use Rattle.std.proofs.Common.{◌≡◌, ℕ, ◌<◌, ◌≤◌, List, Result, Ok, Err, IfOk, length, replicate, true, false, refl, sym, ap, subst, ◌∙◌, arith}
+use Rattle.std.proofs.Common.{◌≡◌, ℕ, ◌≤◌, List, Result, Ok, Err, IfOk, length, replicate, true, false, sym, ap, subst, ◌∙◌, arith}
 use Rattle.ooo_lexer.specs.Pieces.{Lexeme, Piece, Cuts, lexemes}
 use Rattle.ooo_lexer.proofs.Cuttings.{one_cutting}
 use Rattle.ooo_sim.specs.declared.model.ThreadModel.{ThreadModel}

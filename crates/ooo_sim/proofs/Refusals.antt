@@ -1,5 +1,5 @@
 -- Where a later part of a constructor or a module is refused, the whole is.
-use Rattle.std.proofs.Common.{◌≡◌, ℕ, List, [], ◌∷◌, ◌++◌, drop, refl, sym, ap, ◌∙◌, append_assoc}
+use Rattle.std.proofs.Common.{◌≡◌, ℕ, List, [], ◌∷◌, ◌++◌, drop, sym, ap, ◌∙◌, append_assoc}
 use Rattle.ooo_lexer.specs.Pieces.{Lexeme}
 use Rattle.ooo_sim.specs.declared.mark.Mark.TheVariants as mark
 use Rattle.ooo_sim.specs.declared.model.Function.{Function}

@@ -1,5 +1,5 @@
 -- Answers of a test that may want memory.
-use Rattle.std.proofs.Common.{◌≡◌, Bool, true, false, ◌&&◌, Option, Some, None, Result, Ok, Err, IfOk, IfSome, MatchOption, refl, ap, ◌∙◌}
+use Rattle.std.proofs.Common.{◌≡◌, Bool, true, false, ◌&&◌, Option, Some, None, Result, Ok, Err, IfOk, IfSome, MatchOption, refl}
 use Rattle.std.specs.Option.{IfNone}
 
 pub and_false : (a b : Bool) → b ≡ false → (a && b) ≡ false

@@ -1,5 +1,5 @@
 -- Values that are spelled one after another, up to a lexeme that begins none of them.
-use Rattle.std.proofs.Common.{◌≡◌, ℕ, ◌<◌, List, [], ◌∷◌, ◌++◌, length, refl, sym, ap, ◌∙◌, append_assoc, length-append, arith}
+use Rattle.std.proofs.Common.{◌≡◌, ◌<◌, List, [], ◌∷◌, ◌++◌, length, refl, sym, ap, ◌∙◌, append_assoc, length-append, arith}
 use Rattle.ooo_lexer.specs.Pieces.{Lexeme}
 
 -- the values' spellings, one after another

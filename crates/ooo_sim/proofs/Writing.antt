@@ -1,5 +1,5 @@
 -- What a call wrote.
-use Rattle.std.proofs.Common.{◌≡◌, ℕ, List, Option, None, Some, length, take, drop, refl, sym, ap, subst, ◌∙◌, inl, inr, take_all, arith, IfSome}
+use Rattle.std.proofs.Common.{◌≡◌, ℕ, List, Option, None, Some, length, take, drop, refl, sym, ap, subst, inl, inr, take_all, arith, IfSome}
 use Rattle.std.specs.Io.KnownBytes.{Appends}
 use Rattle.std.proofs.KnownBytes.{Appends-nil}
 use Rattle.ooo_sim.specs.Pumps.{Took, AppendsFront}

@@ -2,7 +2,7 @@
 use Rattle.std.specs.Prelude.{◌≡◌, ℕ, ◌⊎◌, List, [], ◌∷◌, Option, codes}
 use Rattle.std.specs.Io.KnownBytes.{Appends}
 use Rattle.ooo_sim.specs.Pumps.{AppendsFront}
-use Rattle.ooo_sim.specs.Replies.{Answer, IsAnswer, answer}
+use Rattle.ooo_sim.specs.Replies.{Answer, answer}
 
 -- the words are the one word `plain`
 abbrev pub IsPlain : List (List ℕ) → Type 0

@@ -1,5 +1,5 @@
 -- An activation of a thread that prints and waits.
-use Rattle.std.specs.Prelude.{ℕ, ◌+◌, ◌==◌, List, [], ◌∷◌, ◌++◌, Option, Some, None, drop, map, replicate, length, slice_get, if◌then◌else◌}
+use Rattle.std.specs.Prelude.{ℕ, ◌+◌, List, [], ◌∷◌, ◌++◌, Option, Some, None, drop, map, replicate, length, slice_get, if◌then◌else◌}
 use Rattle.std.specs.Str.{bytes_eq}
 use Rattle.ooo_time.specs.declared.time.Time.{Time}
 use Rattle.ooo_time.specs.TimeText.{time_text}
@@ -11,8 +11,8 @@ use Rattle.ooo_sim.specs.declared.model.Item.{Item}
 use Rattle.ooo_sim.specs.declared.model.Item.TheVariants as item
 use Rattle.ooo_sim.specs.declared.model.Amount.{Amount}
 use Rattle.ooo_sim.specs.Fitting.{ticks_in}
-use Rattle.ooo_sim.specs.World.{View, Deed, Left, Waits, Ended}
-use Rattle.ooo_sim.specs.Sequence.{Outcome, Activate, State, Result, IsRun, start}
+use Rattle.ooo_sim.specs.World.{Left, Waits, Ended}
+use Rattle.ooo_sim.specs.Sequence.{Outcome, Activate, Result, IsRun, start}
 
 -- what an item writes at a time
 abbrev pub item_text : Time → Item → List ℕ

@@ -92,11 +92,7 @@ fn is_plain(words: &[String]) -> bool
 }
 
 // The reply to the words, and to the text that a source gives.
-fn answer<So: Source>(
-    alloc: Global,
-    words: &[String],
-    source: &mut So,
-) -> Result<Reply, ReadFault>
+fn answer<So: Source>(alloc: Global, words: &[String], source: &mut So) -> Result<Reply, ReadFault>
     ensures plain { IsPlain (map string_bytes words.now) → IfOk result (λ reply. IfSome (So.rest source.old) (λ bytes. IsAnswer (take 1048577 bytes) (answer_of reply))) }
     ensures taken { IsPlain (map string_bytes words.now) → IfOk result (λ _. IfSome (So.rest source.old) (λ bytes. So.rest source.new ≡ Some (drop 1048577 bytes))) }
     ensures others { (IsPlain (map string_bytes words.now) → ⊥) → IfOk result (λ reply. IsOtherWords (answer_of reply)) }

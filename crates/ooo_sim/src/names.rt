@@ -15,10 +15,7 @@ use std::alloc::{AllocError, Global};
 const MOST_THREADS: usize = 256;
 
 // The names, or none where one stands twice.
-fn set_of<'a>(
-    alloc: Global,
-    names: &[&'a [u8]],
-) -> Result<Option<IndexSet<&'a [u8]>>, AllocError>
+fn set_of<'a>(alloc: Global, names: &[&'a [u8]]) -> Result<Option<IndexSet<&'a [u8]>>, AllocError>
     ensures { IfOk result (λ found. MatchOption found (are_distinct (bytes_in names.now) ≡ false) (λ set. (are_distinct (bytes_in names.now) ≡ true) × (names_in set ≡ bytes_in names.now))) }
 {
     let mut set = IndexSet::new(alloc);
@@ -40,10 +37,7 @@ fn is_wait(statement: &Statement) -> bool
 }
 
 // The names of the functions, the module and the instance.
-fn member_names<'a>(
-    alloc: Global,
-    model: &'a ThreadModel,
-) -> Result<Vec<&'a [u8]>, AllocError>
+fn member_names<'a>(alloc: Global, model: &'a ThreadModel) -> Result<Vec<&'a [u8]>, AllocError>
     ensures { IfOk result (λ names. bytes_in names.items ≡ member_names model.now) }
 {
     let mut names = Vec::new(alloc);
@@ -55,10 +49,7 @@ fn member_names<'a>(
     Ok(names)
 }
 
-fn thread_names<'a>(
-    alloc: Global,
-    threads: &'a [Bytes],
-) -> Result<Vec<&'a [u8]>, AllocError>
+fn thread_names<'a>(alloc: Global, threads: &'a [Bytes]) -> Result<Vec<&'a [u8]>, AllocError>
     ensures { IfOk result (λ names. bytes_in names.items ≡ threads.now) }
 {
     let mut names = Vec::new(alloc);
@@ -89,15 +80,13 @@ fn is_registered(threads: &IndexSet<&[u8]>, function: &Function) -> bool
 fn are_registered(threads: &IndexSet<&[u8]>, functions: &[Function]) -> bool
     ensures { result ≡ list_all (is_registered (names_in threads.now)) functions.now }
 {
-    functions.iter().all(|function| is_registered(threads, function))
+    functions
+        .iter()
+        .all(|function| is_registered(threads, function))
 }
 
 // The number of the function of this name, where the names begin with those of the functions.
-fn function_number(
-    functions: &[Function],
-    names: &IndexSet<&[u8]>,
-    name: &[u8],
-) -> Option<usize>
+fn function_number(functions: &[Function], names: &IndexSet<&[u8]>, name: &[u8]) -> Option<usize>
     requires { take (length functions.now) (names_in names.now) ≡ function_names functions.now }
     ensures within { IfSome result (λ i. i < length functions.now) }
     ensures known { is_some result ≡ has_name (function_names functions.now) name.now }

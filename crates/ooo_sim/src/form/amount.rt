@@ -37,9 +37,9 @@ impl<'a> Lexemes<'a> {
 fn amount_of(digits: &[u8], name: &[u8]) -> Option<Amount>
     ensures { MatchOption result
         ((amount : Time) → FitsAmount amount →
-            digits.now ≡ decimal amount.count → name.now ≡ scale_name amount.scale → ⊥)
+        digits.now ≡ decimal amount.count → name.now ≡ scale_name amount.scale → ⊥)
         (λ amount. (digits.now ≡ decimal amount.count) × (name.now ≡ scale_name amount.scale)
-            × FitsAmount amount) }
+        × FitsAmount amount) }
 {
     let amount = Amount {
         count: count_of(digits)?,

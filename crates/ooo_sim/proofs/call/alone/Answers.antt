@@ -1,4 +1,4 @@
-use Rattle.std.proofs.Common.{List, ℕ, take, refl, inl, inr}
+use Rattle.std.proofs.Common.{take, refl, inl, inr}
 use Rattle.ooo_sim.specs.Replies.{IsAnswer, answer_of}
 use Rattle.ooo_sim.specs.Calls.{Wrote}
 use Rattle.ooo_sim.proofs.OneAnswer.{one_answer}
@@ -21,7 +21,7 @@ returns-in-Ok-write_text-clause-plain g c =
     let new = g.Si.Sink.held c.write_text.new.sink in
     let written = rw c.deref.ensures.value at c.in-Ok-write_text.ensures.ok in
     λ p. some_and (g.So.Source.rest c.args.source.now) (λ bytes. IsAnswer (take 1048577 bytes) (answer_of c.in-Ok.reply)) (λ bytes. Wrote (IsAnswer (take 1048577 bytes)) c.in-Ok.reply.status old new) (c.in-Ok.ensures.plain p)
-        (λ bytes is. wrote_all (IsAnswer (take 1048577 bytes)) (answer_of c.in-Ok.reply) is (λ b other. one_answer (take 1048577 bytes) b (answer_of c.in-Ok.reply) other is) old new written)
+    (λ bytes is. wrote_all (IsAnswer (take 1048577 bytes)) (answer_of c.in-Ok.reply) is (λ b other. one_answer (take 1048577 bytes) b (answer_of c.in-Ok.reply) other is) old new written)
 
 pub returns-clause-plain : goal.returns-clause-plain
 returns-clause-plain g c =
@@ -29,4 +29,4 @@ returns-clause-plain g c =
     let new = g.Si.Sink.held c.write_text.new.sink in
     let written = rw c.deref.ensures.value at c.in-Err.ensures.front in
     λ p. some_and (g.So.Source.rest c.args.source.now) (λ bytes. IsAnswer (take 1048577 bytes) (answer_of c.in-Ok.reply)) (λ bytes. Wrote (IsAnswer (take 1048577 bytes)) 5 old new) (c.in-Ok.ensures.plain p)
-        (λ bytes is. wrote_front (IsAnswer (take 1048577 bytes)) (answer_of c.in-Ok.reply) is (λ b other. one_answer (take 1048577 bytes) b (answer_of c.in-Ok.reply) other is) old new written)
+    (λ bytes is. wrote_front (IsAnswer (take 1048577 bytes)) (answer_of c.in-Ok.reply) is (λ b other. one_answer (take 1048577 bytes) b (answer_of c.in-Ok.reply) other is) old new written)

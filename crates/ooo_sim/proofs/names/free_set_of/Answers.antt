@@ -1,4 +1,4 @@
-use Rattle.std.proofs.Common.{◌≡◌, ◌∙◌, not, true, false, sym}
+use Rattle.std.proofs.Common.{◌∙◌, not, sym}
 use Rattle.ooo_sim.specs.Names.{are_distinct, are_free}
 use Rattle.ooo_sim.specs.Reserved.{is_reserved}
 use Rattle.ooo_sim.specs.Bodies.{bytes_in}

@@ -1,4 +1,4 @@
-use Rattle.std.proofs.Common.{◌≡◌, ◌∙◌, sym}
+use Rattle.std.proofs.Common.{◌∙◌, sym}
 use Rattle.std.specs.Str.{bytes_eq}
 use Rattle.ooo_sim.specs.Bodies.{names_in}
 use Rattle.ooo_sim.proofs.NameLists.{name_any, registered_by_name}

@@ -16,4 +16,4 @@ more fs items names new i f x same lt at name before push =
 pub loop-function-preserved : goal.loop-function-preserved
 loop-function-preserved c =
     more c.args.model.now.functions c.as_slice-function-items.result.now c.loop-function.names.items c.push.new.self.items c.loop-function.function-index c.function-item.result c.as_slice.result
-        c.as_slice-function-items.ensures c.loop-function-test.true c.function-item.is c.as_slice.ensures c.loop-function.invariant c.in_ok-push.ensures.items
+    c.as_slice-function-items.ensures c.loop-function-test.true c.function-item.is c.as_slice.ensures c.loop-function.invariant c.in_ok-push.ensures.items

@@ -20,4 +20,4 @@ returns-clause-all c =
     let few : nat_le (length c.args.model.now.threads) 256 ≡ true = le-leb _ _ (omega (arith, c.len.ensures, c.if-len-gt-MOST_THREADS.false)) in
     let threads : threads_keep_rules c.args.model.now ≡ true = sym c.in_ok-threads_keep_rules.ensures ∙ c.if-not-branch-2.false in
     all_pass (members_keep_rules c.args.model.now) (list_all (has_name (function_names c.args.model.now.functions)) c.args.model.now.threads)
-        (and_true _ _ (and_true _ _ (and_true _ _ members main) few) threads) c.resolve.result all
+    (and_true _ _ (and_true _ _ (and_true _ _ members main) few) threads) c.resolve.result all

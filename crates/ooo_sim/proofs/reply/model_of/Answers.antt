@@ -1,8 +1,5 @@
-use Rattle.std.proofs.Common.{◌≡◌, ◌∙◌, sym, ap, map, true, false}
+use Rattle.std.proofs.Common.{◌∙◌, sym, map}
 use Rattle.ooo_lexer.specs.Spans.{lexeme_at}
-use Rattle.ooo_sim.specs.Names.{keeps_rules}
-use Rattle.ooo_sim.specs.Fitting.{FitsModel}
-use Rattle.ooo_sim.specs.Spelling.{spell_model}
 use Rattle.ooo_sim.proofs.OneAnswer.{same_model, breaks_rules}
 use Rattle.ooo_sim.proofs.reply.model_of.Goals as goal
 

@@ -1,4 +1,4 @@
-use Rattle.std.proofs.Common.{◌≡◌, drop, ap}
+use Rattle.std.proofs.Common.{ap}
 use Rattle.ooo_outside.specs.Memory.{SourceState}
 use Rattle.ooo_outside.proofs.Given.{given_bytes, rest_whole}
 use Rattle.ooo_outside.proofs.memory.MemorySourceSource.read.Goals as goal
