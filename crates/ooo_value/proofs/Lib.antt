@@ -1,0 +1,7 @@
+pub mod Causes
+pub mod Conversions
+pub mod Exact
+pub mod Operands
+pub mod QuotientLaw
+pub mod ResultKinds
+pub mod Wraps

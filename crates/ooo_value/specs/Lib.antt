@@ -1,0 +1,5 @@
+pub mod Kinds
+pub mod Values
+pub mod Operators
+pub mod Pairs
+pub mod Faults

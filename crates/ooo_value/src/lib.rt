@@ -1,0 +1,28 @@
+//! The five kinds of values of the simulated language and their arithmetic, as C++ means it on a
+//! machine of two's complement with an `int` of 32 and a `long long` of 64 bits, and the plain
+//! types that the bound model and the lowered code share. Nothing here takes memory.
+#![tactic(auto)]
+
+mod arithmetic;
+mod bits;
+mod bound;
+mod comparisons;
+mod division;
+mod kinds;
+pub mod law;
+mod naming;
+mod operators;
+mod pairs;
+mod shifts;
+mod values;
+
+pub use arithmetic::negate;
+pub use bits::invert;
+pub use bound::{BoundChannel, BoundEvent, BoundVariable, ChannelKind, ProcessKind};
+pub use kinds::{Kind, common};
+pub use naming::{Name, Names};
+pub use operators::{Fault, Op, binary};
+pub use values::{Value, convert, truth};
+
+#[cfg(test)]
+mod tests;

@@ -1,0 +1,98 @@
+//! The operators against a C++ compiler: `tests_table/table.cpp` makes the tables.
+
+mod bits;
+mod chosen;
+mod comparisons;
+mod conversions;
+mod quotients;
+mod single;
+mod sums;
+
+use crate::{Fault, Kind, Name, Names, Op, Value, binary, common, convert, invert, negate, truth};
+use sqlite_items::Items;
+use std::process::Abort;
+use std::test::Fail;
+
+/// An operator, its operands, and its answer.
+pub type BinaryRow = (Op, Value, Value, Result<Value, Fault>);
+
+/// A value, what `-` and `~` give for it, and whether it is not 0.
+pub type UnaryRow = (Value, Result<Value, Fault>, Value, bool);
+
+/// A value, a kind, and the value in that kind.
+pub type ConvertRow = (Value, Kind, Value);
+
+/// Two kinds and their common kind.
+pub type CommonRow = (Kind, Kind, Kind);
+
+fn check_binary(rt: &impl Abort, rows: &[BinaryRow]) {
+    for (op, a, b, answer) in rows {
+        assert_eq!(rt; binary(*op, *a, *b), *answer, "{op:?} of {a:?} and {b:?}");
+    }
+}
+
+#[test]
+fn arithmetic_is_that_of_the_compiler(rt: HostRuntime) {
+    check_binary(&rt, &chosen::CHOSEN);
+    check_binary(&rt, &sums::ADD);
+    check_binary(&rt, &sums::SUBTRACT);
+    check_binary(&rt, &sums::MULTIPLY);
+    check_binary(&rt, &quotients::DIVIDE);
+    check_binary(&rt, &quotients::REMAINDER);
+}
+
+#[test]
+fn bits_are_those_of_the_compiler(rt: HostRuntime) {
+    check_binary(&rt, &bits::BIT_AND);
+    check_binary(&rt, &bits::BIT_OR);
+    check_binary(&rt, &bits::BIT_XOR);
+    check_binary(&rt, &bits::SHIFT_LEFT);
+    check_binary(&rt, &bits::SHIFT_RIGHT);
+}
+
+#[test]
+fn comparisons_are_those_of_the_compiler(rt: HostRuntime) {
+    check_binary(&rt, &comparisons::EQUAL);
+    check_binary(&rt, &comparisons::NOT_EQUAL);
+    check_binary(&rt, &comparisons::LESS);
+    check_binary(&rt, &comparisons::LESS_OR_EQUAL);
+    check_binary(&rt, &comparisons::GREATER);
+    check_binary(&rt, &comparisons::GREATER_OR_EQUAL);
+}
+
+#[test]
+fn unary_operators_are_those_of_the_compiler(rt: HostRuntime) {
+    for (v, minus, inverted, holds) in &single::UNARY {
+        assert_eq!(rt; negate(*v), *minus, "-{v:?}");
+        assert_eq!(rt; invert(*v), *inverted, "~{v:?}");
+        assert_eq!(rt; truth(*v), *holds, "whether {v:?}");
+    }
+}
+
+#[test]
+fn conversions_are_those_of_the_compiler(rt: HostRuntime) {
+    for (v, kind, converted) in &conversions::CONVERSIONS {
+        assert_eq!(rt; convert(*v, *kind), *converted, "{v:?} to {kind:?}");
+    }
+}
+
+#[test]
+fn common_kinds_are_those_of_the_compiler(rt: HostRuntime) {
+    for (a, b, kind) in &conversions::COMMON {
+        assert_eq!(rt; common(*a, *b), *kind, "{a:?} and {b:?}");
+    }
+}
+
+#[test]
+fn names_keep_their_bytes(rt: HostRuntime) -> Result<(), Fail> {
+    let name = Name::from_bytes(b"m.run".to_vec(rt.alloc())?);
+    assert_eq!(rt; name.as_bytes(), b"m.run".as_slice());
+    let names = Names {
+        processes: Items::from_vec(vec![in rt.alloc(); name]?),
+        channels: Items::new(rt.alloc()),
+    };
+    assert_eq!(rt; names.processes.len(), 1);
+    let spelled = Name::from_bytes(b"m".to_vec(rt.alloc())?).into_bytes();
+    assert_eq!(rt; spelled.as_slice(), b"m".as_slice());
+    Ok(())
+}
