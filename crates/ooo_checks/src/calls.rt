@@ -158,9 +158,15 @@ fn a_source_may_have_1048576_bytes(rt: HostRuntime) -> Result<(), Fail> {
 
 #[test]
 fn other_words_are_refused(rt: HostRuntime) -> Result<(), Fail> {
-    for word in ["run", "", "Plain", "plain "] {
+    let rows: [(&str, &[u8]); 4] = [
+        ("run", b"refused words NotBuilt\n"),
+        ("", b"refused words UnknownCommand \n"),
+        ("Plain", b"refused words UnknownCommand Plain\n"),
+        ("plain ", b"refused words UnknownCommand plain \n"),
+    ];
+    for (word, line) in rows {
         let outcome = call(rt.alloc(), word, model(rt.alloc())?, PLENTY)?;
-        assert!(rt; outcome.is(2, b"refused words NotBuilt\n"), "{word}");
+        assert!(rt; outcome.is(2, line), "{word}");
     }
     Ok(())
 }

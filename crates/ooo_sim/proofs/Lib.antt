@@ -16,3 +16,4 @@ pub mod OneRun
 pub mod OneAnswer
 pub mod Bytes
 pub mod Writing
+pub mod Requests

@@ -1,5 +1,6 @@
 -- What a call wrote.
 use Rattle.std.proofs.Common.{◌≡◌, ℕ, List, Option, None, Some, length, take, drop, refl, sym, ap, subst, inl, inr, take_all, arith, IfSome}
+use Rattle.ooo_time.specs.declared.time.Time.{Time}
 use Rattle.std.specs.Io.KnownBytes.{Appends}
 use Rattle.std.proofs.KnownBytes.{Appends-nil}
 use Rattle.ooo_sim.specs.Pumps.{Took, AppendsFront}
@@ -15,10 +16,10 @@ some_and None P Q p h = tt
 some_and (Some x) P Q p h = h x p
 
 -- a source that tells its bytes gave the first of them as the text
-pub took_answer : (n : ℕ) (old new : Option (List ℕ)) (text : List ℕ) (a : Answer) → Took n old new text → IsAnswer text a → IfSome old (λ bytes. IsAnswer (take n bytes) a)
-took_answer n None new text a t h = tt
-took_answer n (Some xs) None text a t h = absurd t
-took_answer n (Some xs) (Some ys) text a t h = subst (λ z. IsAnswer z a) t.0 h
+pub took_answer : (stop : Option Time) (n : ℕ) (old new : Option (List ℕ)) (text : List ℕ) (a : Answer) → Took n old new text → IsAnswer stop text a → IfSome old (λ bytes. IsAnswer stop (take n bytes) a)
+took_answer stop n None new text a t h = tt
+took_answer stop n (Some xs) None text a t h = absurd t
+took_answer stop n (Some xs) (Some ys) text a t h = subst (λ z. IsAnswer stop z a) t.0 h
 
 pub took_rest : (n : ℕ) (old new : Option (List ℕ)) (text : List ℕ) → Took n old new text → IfSome old (λ bytes. new ≡ Some (drop n bytes))
 took_rest n None new text t = tt

@@ -1,7 +1,8 @@
 -- What holds of the answers to texts.
-use Rattle.std.specs.Prelude.{◌≡◌, ℕ, List}
+use Rattle.std.specs.Prelude.{◌≡◌, ℕ, List, Option}
+use Rattle.ooo_time.specs.declared.time.Time.{Time}
 use Rattle.ooo_sim.specs.Replies.{Answer, IsAnswer}
 
--- a text has one answer
+-- a text has one answer, at each stop time
 abbrev pub HasOneAnswer : Type 0
-HasOneAnswer = (text : List ℕ) (a b : Answer) → IsAnswer text a → IsAnswer text b → a ≡ b
+HasOneAnswer = (stop : Option Time) (text : List ℕ) (a b : Answer) → IsAnswer stop text a → IsAnswer stop text b → a ≡ b

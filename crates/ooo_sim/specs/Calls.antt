@@ -1,16 +1,12 @@
 -- What a call answers and writes.
-use Rattle.std.specs.Prelude.{◌≡◌, ℕ, ◌⊎◌, List, [], ◌∷◌, Option, codes}
+use Rattle.std.specs.Prelude.{◌≡◌, ℕ, ◌⊎◌, List, Option}
 use Rattle.std.specs.Io.KnownBytes.{Appends}
 use Rattle.ooo_sim.specs.Pumps.{AppendsFront}
 use Rattle.ooo_sim.specs.Replies.{Answer, answer}
 
--- the words are the one word `plain`
-abbrev pub IsPlain : List (List ℕ) → Type 0
-IsPlain words = words ≡ codes "plain" ∷ []
-
--- the answer to any other words
-abbrev pub IsOtherWords : Answer → Type 0
-IsOtherWords a = a ≡ answer 2 (codes "refused words NotBuilt\n")
+-- the answer to words that are refused with this line
+abbrev pub IsRefusal : List ℕ → Answer → Type 0
+IsRefusal line a = a ≡ answer 2 line
 
 -- a fault of the source or the sink, or want of memory
 abbrev pub IsFailure : ℕ → Type 0

@@ -16,4 +16,5 @@ pub mod Texts
 pub mod Ready
 pub mod Replies
 pub mod Answers
+pub mod Asking
 pub mod Calls

@@ -51,6 +51,11 @@ activate bodies p i v = act v.stamp.time i (drop i (body_of (slice_get bodies p)
 abbrev pub IsThreadRun : List (List Statement) → Time → Result → Type 0
 IsThreadRun bodies stop r = IsRun (activate bodies) stop (start (replicate (length bodies) 0)) r
 
+-- the time at which a run of a model stops: the given one, else the model's
+abbrev pub stop_time : Option Time → ThreadModel → Time
+stop_time None m = time_in m.stop
+stop_time (Some stop) m = stop
+
 -- the body of the first function of this name
 abbrev pub body_named : List Function → List ℕ → List Statement
 body_named [] name = []

@@ -1,6 +1,7 @@
 //! The program's calls: what a simulation reads, runs and writes.
 #![tactic(auto)]
 
+mod asked;
 mod call;
 mod form;
 pub mod law;

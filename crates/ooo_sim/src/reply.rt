@@ -1,5 +1,9 @@
 ghost use Rattle.std.specs.Prelude.{◌≡◌, ◌≤◌, length, IfOk, IfSome, IfNone};
 ghost use Rattle.ooo_sim.specs.declared.model.ThreadModel.{ThreadModel as Tree};
+ghost use Rattle.ooo_time.specs.Scales.{greatest_time};
+ghost use Rattle.ooo_sim.specs.Fitting.{FitsAmount};
+ghost use Rattle.ooo_sim.specs.Threads.{stop_time};
+ghost use Rattle.ooo_sim.specs.Asking.{StopsInTime};
 ghost use Rattle.ooo_sim.specs.Texts.{IsTextOf};
 ghost use Rattle.ooo_sim.specs.Ready.{IsReady, IsReportOf};
 ghost use Rattle.ooo_sim.specs.Replies.{IsAnswer, answer_of};
@@ -11,6 +15,7 @@ use crate::names::processes_of;
 use crate::report::report;
 use crate::walker::run_threads;
 use ooo_lexer::{LexError, lex};
+use ooo_time::Time;
 use std::alloc::{AllocError, Global};
 
 /// The most bytes that a source may have.
@@ -41,9 +46,14 @@ pub(crate) fn refusal(alloc: Global, status: u8, line: &[u8]) -> Result<Reply, A
     })
 }
 
-/// The reply of the command `plain` to a text.
-pub(crate) fn reply_to(alloc: Global, text: &[u8]) -> Result<Reply, AllocError>
-    ensures answer { IfOk result (λ reply. IsAnswer text.now (answer_of reply)) }
+/// The reply of the command `plain` to a text, with a stop time in place of the text's, if one is given.
+pub(crate) fn reply_to(
+    alloc: Global,
+    text: &[u8],
+    stop: Option<Time>,
+) -> Result<Reply, AllocError>
+    requires { StopsInTime stop }
+    ensures answer { IfOk result (λ reply. IsAnswer stop text.now (answer_of reply)) }
     ensures own { IfOk result (λ reply. IsFailure reply.status → ⊥) }
 {
     if text.len() > MOST_BYTES {
@@ -51,23 +61,37 @@ pub(crate) fn reply_to(alloc: Global, text: &[u8]) -> Result<Reply, AllocError>
     }
     match model_of(alloc, text)? {
         None => refusal(alloc, 3, b"refused form NotBuilt\n"),
-        Some(ready) => run(alloc, &ready),
+        Some(ready) => run(alloc, &ready, stop),
     }
 }
 
 // Runs a model and reports.
-fn run(alloc: Global, ready: &Ready) -> Result<Reply, AllocError>
-    requires { IsReady ready.now }
+fn run(alloc: Global, ready: &Ready, stop: Option<Time>) -> Result<Reply, AllocError>
+    requires ready { IsReady ready.now }
+    requires stop { StopsInTime stop }
     ensures status { IfOk result (λ reply. reply.status ≡ 0) }
-    ensures text { IfOk result (λ reply. IsReportOf ready.now.model reply.text.items) }
+    ensures text { IfOk result (λ reply. IsReportOf stop ready.now.model reply.text.items) }
 {
     let functions = ready.model.functions.as_slice();
-    let stop = ready.model.stop.time();
-    let run = run_threads(alloc, functions, &ready.processes, stop)?;
+    let until = stop_time(stop, &ready.model);
+    let run = run_threads(alloc, functions, &ready.processes, until)?;
     Ok(Reply {
         status: 0,
         text: report(run)?,
     })
+}
+
+// The given stop time, else the model's.
+fn stop_time(stop: Option<Time>, model: &ThreadModel) -> Time
+    requires given { StopsInTime stop }
+    requires own { FitsAmount model.now.stop }
+    ensures exact { result ≡ stop_time stop model.now }
+    ensures within { result.0 ≤ greatest_time }
+{
+    match stop {
+        Some(stop) => stop,
+        None => model.stop.time(),
+    }
 }
 
 // The model of a text, if it is one.

@@ -1,0 +1,95 @@
+ghost use Rattle.std.specs.Prelude.{◌≡◌, ◌⊎◌, List, map, unwrap_or, option_and_then, Ok, Err, IfOk, IfErr};
+ghost use Rattle.std.specs.String.{string_bytes};
+ghost use Rattle.ooo_words.specs.Limits.{IsWithinLimits};
+ghost use Rattle.ooo_words.specs.Numbers.{number_of, time_of};
+ghost use Rattle.ooo_words.specs.Parser.{HasValuesOf, value_found};
+ghost use Rattle.ooo_words.specs.Reading.{Setting, command_of, reading};
+ghost use Rattle.ooo_words.specs.declared.options.OptionName.TheVariants.{Stop};
+
+use crate::breach::check_settings;
+use crate::command::{Command, WordsError};
+use crate::matches::matches;
+use crate::numbers::time;
+use crate::options::{CommandName, OptionName};
+use crate::word::Word;
+use clap::ArgMatches;
+use ooo_time::Time;
+use std::alloc::Global;
+
+/// The delta cycles at one time that a run may have where the words don't say.
+const DEFAULT_DELTAS: u32 = 10_000;
+
+/// The statements that a run may have where the words don't say.
+const DEFAULT_STATEMENTS: u32 = 1_000_000;
+
+/// The command that the words after the program's name ask for.
+///
+/// The first word names the command, and each option of it is given as `--name VALUE` or `--name=VALUE`, in any order
+/// and at most once. Else the error is the first breach from left to right, or want of memory.
+pub fn read(alloc: Global, words: &[String]) -> Result<Command, WordsError>
+    ensures ok { IfOk result (λ command. reading (map string_bytes words.now) ≡ Ok command) }
+
+    // Each number is in the range of its option.
+    ensures limits { IfOk result IsWithinLimits }
+
+    // Each error but want of memory is the first breach.
+    ensures err { IfErr result (λ e.
+        (e ≡ WordsError.OutOfMemory) ⊎ (reading (map string_bytes words.now) ≡ Err e)) }
+{
+    let Some((word, settings)) = words.split_first() else {
+        return Err(WordsError::NoCommand);
+    };
+    let Some(command) = CommandName::named(word.as_str()) else {
+        return Err(WordsError::UnknownCommand(Word::new(alloc, word.as_str())?));
+    };
+    check_settings(alloc, command, settings)?;
+    let matches = matches(alloc, command, words)?;
+    Ok(command_given(command, &matches))
+}
+
+/// The command with the values that were found.
+fn command_given(command: CommandName, matches: &ArgMatches<'_>) -> Command
+    ensures { (settings : List Setting) → HasValuesOf settings matches.now
+        → result ≡ command_of command settings }
+{
+    match command {
+        CommandName::Run => Command::Run {
+            stop: stop_time(matches),
+            workers: number_or(matches, OptionName::Workers, 1),
+            deltas: number_or(matches, OptionName::Deltas, DEFAULT_DELTAS),
+            statements: number_or(matches, OptionName::Statements, DEFAULT_STATEMENTS),
+        },
+        CommandName::Plain => Command::Plain {
+            stop: stop_time(matches),
+            deltas: number_or(matches, OptionName::Deltas, DEFAULT_DELTAS),
+            statements: number_or(matches, OptionName::Statements, DEFAULT_STATEMENTS),
+        },
+        CommandName::Check => Command::Check,
+        CommandName::Tables => Command::Tables,
+        CommandName::Bench => Command::Bench {
+            stages: number_or(matches, OptionName::Stages, 4),
+            items: number_or(matches, OptionName::Items, 16),
+            seed: number_or(matches, OptionName::Seed, 1),
+            workers: number_or(matches, OptionName::Workers, 1),
+        },
+    }
+}
+
+/// The stop time, where it was found.
+fn stop_time(matches: &ArgMatches<'_>) -> Option<Time>
+    ensures { result ≡ option_and_then time_of (value_found matches.now Stop) }
+{
+    let text = matches.get_str(OptionName::Stop.text())?;
+    time(text.as_bytes())
+}
+
+/// The number that was found for an option, or this one where none was.
+fn number_or(matches: &ArgMatches<'_>, option: OptionName, default: u32) -> u32
+    ensures { result
+        ≡ unwrap_or (option_and_then (number_of option) (value_found matches.now option)) default }
+{
+    match matches.get_str(option.text()) {
+        Some(text) => option.number(text).unwrap_or(default),
+        None => default,
+    }
+}
