@@ -1,5 +1,5 @@
 -- What the words ask for, of what is built.
-use Rattle.std.specs.Prelude.{ℕ, Bool, true, false, ◌||◌, List, [], Option, Result, Ok, Err, codes, nat_eq, unwrap_or, IfSome, ◌≤◌}
+use Rattle.std.specs.Prelude.{ℕ, Bool, false, ◌||◌, List, [], Option, Result, Ok, Err, codes, nat_eq, unwrap_or, IfSome, ◌≤◌}
 use Rattle.std.specs.List.{list_any, starts_with}
 use Rattle.ooo_time.specs.declared.time.Time.{Time}
 use Rattle.ooo_time.specs.Scales.{greatest_time}

@@ -48,10 +48,7 @@ fn built(alloc: Global, command: Command, limited: bool) -> Result<Asked, AllocE
 fn not_built(alloc: Global) -> Result<Asked, AllocError>
     ensures { IfOk result (λ asked. request_in asked ≡ Refusal (codes "refused words NotBuilt\n")) }
 {
-    Ok(Asked::Refused(Vec::from_slice(
-        alloc,
-        b"refused words NotBuilt\n",
-    )?))
+    Ok(Asked::Refused(Vec::from_slice(alloc, b"refused words NotBuilt\n")?))
 }
 
 // Whether a limit of delta cycles or of statements is given.

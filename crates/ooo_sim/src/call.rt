@@ -105,11 +105,7 @@ fn answer<So: Source>(alloc: Global, words: &[String], source: &mut So) -> Resul
 }
 
 // The reply to the text that a source gives.
-fn plain<So: Source>(
-    alloc: Global,
-    source: &mut So,
-    stop: Option<Time>,
-) -> Result<Reply, ReadFault>
+fn plain<So: Source>(alloc: Global, source: &mut So, stop: Option<Time>) -> Result<Reply, ReadFault>
     requires { StopsInTime stop }
     ensures answer { IfOk result (λ reply. IfSome (So.rest source.old) (λ bytes. IsAnswer stop (take 1048577 bytes) (answer_of reply))) }
     ensures rest { IfOk result (λ _. IfSome (So.rest source.old) (λ bytes. So.rest source.new ≡ Some (drop 1048577 bytes))) }

@@ -47,11 +47,7 @@ pub(crate) fn refusal(alloc: Global, status: u8, line: &[u8]) -> Result<Reply, A
 }
 
 /// The reply of the command `plain` to a text, with a stop time in place of the text's, if one is given.
-pub(crate) fn reply_to(
-    alloc: Global,
-    text: &[u8],
-    stop: Option<Time>,
-) -> Result<Reply, AllocError>
+pub(crate) fn reply_to(alloc: Global, text: &[u8], stop: Option<Time>) -> Result<Reply, AllocError>
     requires { StopsInTime stop }
     ensures answer { IfOk result (λ reply. IsAnswer stop text.now (answer_of reply)) }
     ensures own { IfOk result (λ reply. IsFailure reply.status → ⊥) }

@@ -7,5 +7,5 @@ use Rattle.ooo_sim.proofs.asked.read_words.Goals as goal
 pub returns-in-Ok-clause-request : goal.returns-in-Ok-clause-request
 returns-in-Ok-clause-request c =
     let same : request (map string_bytes c.args.words.now) ≡ request_for c.names_limit.result (Ok c.in-Ok.command) =
-        ap (λ b. request_for b (reading (map string_bytes c.args.words.now))) (sym (any_word is_limit c.args.words.now) ∙ sym c.names_limit.ensures) ∙ ap (λ r. request_for c.names_limit.result r) c.in-Ok.ensures.ok in
+    ap (λ b. request_for b (reading (map string_bytes c.args.words.now))) (sym (any_word is_limit c.args.words.now) ∙ sym c.names_limit.ensures) ∙ ap (λ r. request_for c.names_limit.result r) c.in-Ok.ensures.ok in
     subst (λ z. IfOk c.built.result (λ asked. z ≡ request_in asked)) (sym same) c.built.ensures.request
