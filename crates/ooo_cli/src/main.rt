@@ -1,6 +1,10 @@
 //! The simulator as a program: a model text on standard input, its report on standard output.
 #![tactic(auto)]
 
+ghost use Rattle.std.specs.Prelude.{◌≡◌, ◌≢◌};
+ghost use Rattle.std.specs.IoError.{error_kind};
+ghost use Rattle.std.specs.declared.io.ErrorKind.TheVariants.{InvalidData};
+
 use ooo_outside::{OpenGate, ReadSource, WriteSink};
 use ooo_sim::simulate;
 use std::alloc::Global;
@@ -36,7 +40,10 @@ fn words(rt: &HostRuntime) -> io::Result<Vec<String>> {
 }
 
 /// The status where the words can't be had: one is no UTF-8, or memory is wanting.
-fn failure(error: &io::Error) -> u8 {
+fn failure(error: &io::Error) -> u8
+    ensures words { error_kind error.now ≡ InvalidData → result ≡ 2 }
+    ensures memory { error_kind error.now ≢ InvalidData → result ≡ 6 }
+{
     match error.kind() {
         io::ErrorKind::InvalidData => UNREAD_WORDS,
         _ => NO_MEMORY,

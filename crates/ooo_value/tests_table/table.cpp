@@ -1,7 +1,7 @@
 // Writes the tables of src/tests: rows of operands with the values that C++ gives, or the name of
 // the fault where C++ leaves the result undefined. Run in this folder, by:
 //
-//     g++ -std=c++20 -O0 -w -o /tmp/table table.cpp && /tmp/table ../src/tests && (cd .. && rt fmt)
+//     g++ -std=c++20 -O0 -w -o table table.cpp && ./table ../src/tests && rm table && (cd .. && rt fmt)
 //
 // No undefined operation is executed: each is told apart by wider arithmetic first.
 #include <cstdint>
