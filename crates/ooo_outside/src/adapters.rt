@@ -1,5 +1,9 @@
-ghost use Rattle.std.specs.Prelude.{◌≡◌};
+ghost use Rattle.std.specs.Prelude.{◌≡◌, ◌≤◌, ◌<◌, None, length, IfOk, OnOk, OnErr};
+ghost use Rattle.std.specs.Io.KnownBytes.{ReadConsumes, WriteAppends};
+ghost use Rattle.ooo_outside.specs.Causes.{HasCause};
+ghost use Rattle.ooo_outside.specs.Memory.{counted};
 
+use crate::count::counted;
 use crate::traits::{Failed, Sink, Source};
 use std::io::{Read, Write};
 use std::marker::Model;
@@ -34,11 +38,19 @@ impl<R: Read> Source for ReadSource<R> {
 
     ghost faults = { λ s. s };
 
-    fn read(&mut self, into: &mut [u8]) -> Result<usize, Failed> {
+    fn read(&mut self, into: &mut [u8]) -> Result<usize, Failed>
+        ensures bound { IfOk result (λ n. n ≤ length into.new) }
+        ensures bytes { ReadConsumes None None result into.new }
+        ensures cause { HasCause self.old self.new result }
+
+        // The count of faults.
+        ensures counts { OnErr result (self.new ≡ counted self.old) }
+        ensures kept { OnOk result (self.new ≡ self.old) }
+    {
         match self.inner.read(into) {
             Ok(count) => Ok(count),
             Err(_) => {
-                self.faults = self.faults.saturating_add(1);
+                self.faults = counted(self.faults);
                 Err(Failed)
             }
         }
@@ -76,11 +88,20 @@ impl<W: Write> Sink for WriteSink<W> {
 
     ghost faults = { λ s. s };
 
-    fn write(&mut self, piece: &[u8]) -> Result<usize, Failed> {
+    fn write(&mut self, piece: &[u8]) -> Result<usize, Failed>
+        ensures bound { IfOk result (λ n. n ≤ length piece.now) }
+        ensures onward { IfOk result (λ n. 0 < length piece.now → 0 < n) }
+        ensures bytes { WriteAppends None None result piece.now }
+        ensures cause { HasCause self.old self.new result }
+
+        // The count of faults.
+        ensures counts { OnErr result (self.new ≡ counted self.old) }
+        ensures kept { OnOk result (self.new ≡ self.old) }
+    {
         match self.inner.write(piece) {
             Ok(count) if count > 0 || piece.is_empty() => Ok(count),
             _ => {
-                self.faults = self.faults.saturating_add(1);
+                self.faults = counted(self.faults);
                 Err(Failed)
             }
         }

@@ -4,6 +4,7 @@
 #![tactic(auto)]
 
 pub mod adapters;
+mod count;
 pub mod gate;
 pub mod memory;
 pub mod traits;

@@ -3,6 +3,7 @@ ghost use Rattle.std.specs.Io.KnownBytes.{ReadConsumes, WriteAppends};
 ghost use Rattle.ooo_outside.specs.Causes.{HasCause};
 ghost use Rattle.ooo_outside.specs.Memory.{source_failed, source_given, sink_failed, sink_taken, counted};
 
+use crate::count::counted;
 use crate::traits::{Failed, Sink, Source};
 use std::alloc::{AllocError, Global};
 use std::marker::Model;
@@ -83,9 +84,9 @@ impl Source for MemorySource {
         ensures given { IfOk result (λ n. self.new ≡ source_given self.old n) }
         ensures count { IfOk result (λ n. n ≡ min self.old.most (min (length into.new) (length self.old.rest))) }
     {
-        self.calls = self.calls.saturating_add(1);
+        self.calls = counted(self.calls);
         if fails(&self.failing, self.calls) {
-            self.faults = self.faults.saturating_add(1);
+            self.faults = counted(self.faults);
             return Err(Failed);
         }
         let count = give(into, &self.bytes[self.given..], self.most);
@@ -176,9 +177,9 @@ impl Sink for MemorySink {
         ensures taken { IfOk result (λ n. self.new ≡ sink_taken self.old piece.now n) }
         ensures count { IfOk result (λ n. n ≡ min self.old.most (min (length piece.now) self.old.room)) }
     {
-        self.calls = self.calls.saturating_add(1);
+        self.calls = counted(self.calls);
         if self.room == 0 || fails(&self.failing, self.calls) {
-            self.faults = self.faults.saturating_add(1);
+            self.faults = counted(self.faults);
             return Err(Failed);
         }
         let count = self.most.min(piece.len().min(self.room));

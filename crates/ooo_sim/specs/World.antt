@@ -20,7 +20,7 @@ stamp_of t = record { time = record { 0 = t }; delta = 0 }
 
 -- ---- activations, as the scheduler sees them
 
--- how an activation leaves its process: waiting for a time (IEEE 1666-2011, 4.2.2 and 5.2.17), or for nothing
+-- how an activation leaves its process: waiting for a time (IEEE 1666-2011, 5.2.18), or for nothing
 pub data Left : Type 0 where
   Waits : Time → Left
   Ended : Left

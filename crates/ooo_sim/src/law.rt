@@ -1,5 +1,7 @@
 //! What holds of the definitions: functions that do nothing, whose clauses are laws.
 
+ghost use Rattle.std.specs.Prelude.{◌≡◌, [], ◌∷◌, None, codes};
+ghost use Rattle.ooo_sim.specs.Asking.{request, PlainRun};
 ghost use Rattle.ooo_sim.specs.Laws.{IsOneModel};
 ghost use Rattle.ooo_sim.specs.Walker.{HasOneResult};
 ghost use Rattle.ooo_sim.specs.Answers.{HasOneAnswer};
@@ -17,4 +19,9 @@ pub fn one_result()
 /// A text has one answer: one status and one text to write.
 pub fn one_answer()
     ensures { HasOneAnswer }
+{}
+
+/// The one word `plain` asks for a run by the sequential scheduler, up to the model's own stop time.
+pub fn plain_asks_for_a_run()
+    ensures { request (codes "plain" ∷ []) ≡ PlainRun None }
 {}
