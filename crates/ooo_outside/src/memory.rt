@@ -31,7 +31,7 @@ impl Model for MemorySource {
 }
 
 impl MemorySource {
-    /// A source of these bytes; the calls whose numbers, counted from 1, are in `failing` fail.
+    /// A source of these bytes. `failing` has the numbers of the calls that are to fail; the first call is number 1.
     pub fn new(bytes: Vec<u8>, most: usize, failing: Vec<u32>) -> MemorySource
         requires { 1 ≤ most }
         ensures { result ≡ record { rest = bytes.items; most = most; failing = failing.items; calls = 0; faults = 0 } }
@@ -118,7 +118,7 @@ impl Model for MemorySink {
 }
 
 impl MemorySink {
-    /// An empty sink with this room; the calls whose numbers, counted from 1, are in `failing` fail.
+    /// An empty sink with this room. `failing` has the numbers of the calls that are to fail; the first call is number 1.
     pub fn make(
         alloc: Global,
         room: usize,

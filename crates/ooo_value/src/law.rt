@@ -97,7 +97,7 @@ pub fn unary_is_of_the_promoted_kind(v: Value)
     ensures inversion { IsOfKind (inversion_of v) (promoted_kind (kind_of v)) }
 {}
 
-/// `~` inverts each bit of the promoted value: its bits are those that the value lacks.
+/// `~` flips every bit: what it gives has the bits that the promoted value lacks.
 pub fn inversion_has_the_other_bits(v: Value)
     ensures { let k = promoted_kind (kind_of v) in
         bits_in k (number_of (inversion_of v)) + bits_in k (number_of v) + 1 ≡ 2 ^ width_of k }

@@ -1,6 +1,6 @@
 //! The five kinds of values of the simulated language and their arithmetic, as C++ means it on a
-//! machine of two's complement with an `int` of 32 and a `long long` of 64 bits, and the plain
-//! types that the bound model and the lowered code share. Nothing here takes memory.
+//! machine of two's complement with an `int` of 32 and a `long long` of 64 bits. Small types of a
+//! model's parts stand here too, for the crates above. Nothing here takes memory.
 #![tactic(auto)]
 
 mod arithmetic;
