@@ -4,11 +4,7 @@ use std::process::Abort;
 use std::test::Fail;
 
 /// A source, and its tokens one after another as [`show`] writes them: none where it is refused.
-#[derive(Clone, Copy)]
-struct Case {
-    source: &'static [u8],
-    tokens: Option<&'static [u8]>,
-}
+type Case = (&'static [u8], Option<&'static [u8]>);
 
 // Writes each token as the letter of its kind, a colon, its bytes and a bar.
 fn show(
@@ -34,11 +30,12 @@ fn show(
     Ok(text)
 }
 
-fn check(rt: &impl Abort, alloc: Global, case: &Case) -> Result<(), AllocError> {
-    assert!(rt; case.source.len() <= 1_048_576);
-    match (lex(alloc, case.source), case.tokens) {
-        (Ok(tokens), Some(wanted)) => {
-            let shown = show(rt, alloc, case.source, &tokens)?;
+fn check(rt: &impl Abort, alloc: Global, case: Case) -> Result<(), AllocError> {
+    let (source, tokens) = case;
+    assert!(rt; source.len() <= 1_048_576);
+    match (lex(alloc, source), tokens) {
+        (Ok(found), Some(wanted)) => {
+            let shown = show(rt, alloc, source, &found)?;
             assert!(rt; shown.as_slice() == wanted);
         }
         (Err(error), None) => assert!(rt; error == LexError::NotBuilt),
@@ -49,69 +46,27 @@ fn check(rt: &impl Abort, alloc: Global, case: &Case) -> Result<(), AllocError> 
 
 #[test]
 fn cuts_tokens(rt: HostRuntime) -> Result<(), Fail> {
-    let cases = [
-        Case {
-            source: b"",
-            tokens: Some(b""),
-        },
-        Case {
-            source: b" \t\r\n ",
-            tokens: Some(b""),
-        },
-        Case {
-            source: b"<<(){}[];,*",
-            tokens: Some(b"s:<<|s:(|s:)|s:{|s:}|s:[|s:]|s:;|s:,|s:*|"),
-        },
-        Case {
-            source: b"<<<<",
-            tokens: Some(b"s:<<|s:<<|"),
-        },
-        Case {
-            source: b"<<<",
-            tokens: None,
-        },
-        Case {
-            source: b"<",
-            tokens: None,
-        },
-        Case {
-            source: b"a_1 _B2c(Z9)",
-            tokens: Some(b"w:a_1|w:_B2c|s:(|w:Z9|s:)|"),
-        },
-        Case {
-            source: b"0 10 7",
-            tokens: Some(b"n:0|n:10|n:7|"),
-        },
-        Case {
-            source: b"a1(1)",
-            tokens: Some(b"w:a1|s:(|n:1|s:)|"),
-        },
-        Case {
-            source: b"00",
-            tokens: None,
-        },
-        Case {
-            source: b"01",
-            tokens: None,
-        },
-        Case {
-            source: b"1a",
-            tokens: None,
-        },
-        Case {
-            source: b"0x1",
-            tokens: None,
-        },
-        Case {
-            source: b"123456789012345678",
-            tokens: Some(b"n:123456789012345678|"),
-        },
-        Case {
-            source: b"1234567890123456789",
-            tokens: None,
-        },
+    let cases: [Case; 15] = [
+        (b"", Some(b"")),
+        (b" \t\r\n ", Some(b"")),
+        (
+            b"<<(){}[];,*",
+            Some(b"s:<<|s:(|s:)|s:{|s:}|s:[|s:]|s:;|s:,|s:*|"),
+        ),
+        (b"<<<<", Some(b"s:<<|s:<<|")),
+        (b"<<<", None),
+        (b"<", None),
+        (b"a_1 _B2c(Z9)", Some(b"w:a_1|w:_B2c|s:(|w:Z9|s:)|")),
+        (b"0 10 7", Some(b"n:0|n:10|n:7|")),
+        (b"a1(1)", Some(b"w:a1|s:(|n:1|s:)|")),
+        (b"00", None),
+        (b"01", None),
+        (b"1a", None),
+        (b"0x1", None),
+        (b"123456789012345678", Some(b"n:123456789012345678|")),
+        (b"1234567890123456789", None),
     ];
-    for case in &cases {
+    for case in cases {
         check(&rt, rt.alloc(), case)?;
     }
     Ok(())
@@ -119,61 +74,22 @@ fn cuts_tokens(rt: HostRuntime) -> Result<(), Fail> {
 
 #[test]
 fn cuts_texts(rt: HostRuntime) -> Result<(), Fail> {
-    let cases = [
-        Case {
-            source: b"\"\"",
-            tokens: Some(b"t:\"\"|"),
-        },
-        Case {
-            source: b"\"a b\"\"c\"",
-            tokens: Some(b"t:\"a b\"|t:\"c\"|"),
-        },
-        Case {
-            source: b"\"\xc8\0\x0b\"",
-            tokens: Some(b"t:\"\xc8\0\x0b\"|"),
-        },
-        Case {
-            source: b"\"a # b\"",
-            tokens: Some(b"t:\"a # b\"|"),
-        },
-        Case {
-            source: b"\"a",
-            tokens: None,
-        },
-        Case {
-            source: b"\"a\n\"",
-            tokens: None,
-        },
-        Case {
-            source: b"\"a\r\"",
-            tokens: None,
-        },
-        Case {
-            source: b"\"a\\n\"",
-            tokens: None,
-        },
-        Case {
-            source: b"a\x0bb",
-            tokens: None,
-        },
-        Case {
-            source: b"\0",
-            tokens: None,
-        },
-        Case {
-            source: b"\xc8",
-            tokens: None,
-        },
-        Case {
-            source: b"a = b",
-            tokens: None,
-        },
-        Case {
-            source: b"// a",
-            tokens: None,
-        },
+    let cases: [Case; 13] = [
+        (b"\"\"", Some(b"t:\"\"|")),
+        (b"\"a b\"\"c\"", Some(b"t:\"a b\"|t:\"c\"|")),
+        (b"\"\xc8\0\x0b\"", Some(b"t:\"\xc8\0\x0b\"|")),
+        (b"\"a # b\"", Some(b"t:\"a # b\"|")),
+        (b"\"a", None),
+        (b"\"a\n\"", None),
+        (b"\"a\r\"", None),
+        (b"\"a\\n\"", None),
+        (b"a\x0bb", None),
+        (b"\0", None),
+        (b"\xc8", None),
+        (b"a = b", None),
+        (b"// a", None),
     ];
-    for case in &cases {
+    for case in cases {
         check(&rt, rt.alloc(), case)?;
     }
     Ok(())
@@ -181,73 +97,25 @@ fn cuts_texts(rt: HostRuntime) -> Result<(), Fail> {
 
 #[test]
 fn skips_directives(rt: HostRuntime) -> Result<(), Fail> {
-    let cases = [
-        Case {
-            source: b"#include <systemc>",
-            tokens: Some(b""),
-        },
-        Case {
-            source: b"#include<iostream>\nx",
-            tokens: Some(b"w:x|"),
-        },
-        Case {
-            source: b"#\t include \r\t\"systemc.h\" \t\r\nx",
-            tokens: Some(b"w:x|"),
-        },
-        Case {
-            source: b"#include \"systemc\"",
-            tokens: Some(b""),
-        },
-        Case {
-            source: b"#include <systemc.h>",
-            tokens: Some(b""),
-        },
-        Case {
-            source: b"a ; #include <systemc>\nb",
-            tokens: Some(b"w:a|s:;|w:b|"),
-        },
-        Case {
-            source: b"#include <systemc> x",
-            tokens: None,
-        },
-        Case {
-            source: b"#include <systemc>;",
-            tokens: None,
-        },
-        Case {
-            source: b"#include <systemc> // x",
-            tokens: None,
-        },
-        Case {
-            source: b"#include \"iostream\"",
-            tokens: None,
-        },
-        Case {
-            source: b"#include <systemc >",
-            tokens: None,
-        },
-        Case {
-            source: b"#include\n<systemc>",
-            tokens: None,
-        },
-        Case {
-            source: b"#includes <systemc>",
-            tokens: None,
-        },
-        Case {
-            source: b"#include",
-            tokens: None,
-        },
-        Case {
-            source: b"#define A",
-            tokens: None,
-        },
-        Case {
-            source: b"#",
-            tokens: None,
-        },
+    let cases: [Case; 16] = [
+        (b"#include <systemc>", Some(b"")),
+        (b"#include<iostream>\nx", Some(b"w:x|")),
+        (b"#\t include \r\t\"systemc.h\" \t\r\nx", Some(b"w:x|")),
+        (b"#include \"systemc\"", Some(b"")),
+        (b"#include <systemc.h>", Some(b"")),
+        (b"a ; #include <systemc>\nb", Some(b"w:a|s:;|w:b|")),
+        (b"#include <systemc> x", None),
+        (b"#include <systemc>;", None),
+        (b"#include <systemc> // x", None),
+        (b"#include \"iostream\"", None),
+        (b"#include <systemc >", None),
+        (b"#include\n<systemc>", None),
+        (b"#includes <systemc>", None),
+        (b"#include", None),
+        (b"#define A", None),
+        (b"#", None),
     ];
-    for case in &cases {
+    for case in cases {
         check(&rt, rt.alloc(), case)?;
     }
     Ok(())
