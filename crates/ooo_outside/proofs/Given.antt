@@ -1,10 +1,6 @@
 -- What one read of a memory source gives.
-use Rattle.std.proofs.Common.{◌≡◌, ◌≤◌, ◌<◌, ◌+◌, ◌-◌, ◌++◌, ◌∙◌, ap, ℕ, List, [], length, take, drop, take_all, min, sym, arith, length-drop}
+use Rattle.std.proofs.Common.{◌≡◌, ◌≤◌, ◌<◌, ◌+◌, ◌++◌, ◌∙◌, ap, ℕ, List, [], length, take, drop, min, sym, arith, length-drop}
 use Rattle.std.proofs.lemmas.List.{take-append-drop, drop_all, drop-drop}
-
--- what is left of a list is itself, cut at its end
-pub rest_whole : (i : ℕ) (xs : List ℕ) → take (length xs - i) (drop i xs) ≡ drop i xs
-rest_whole i xs = take_all (length xs - i) (drop i xs) (omega (arith, length-drop i xs))
 
 -- the first n of the bytes that are left, where none only at the end
 pub given_bytes : (xs into : List ℕ) (given n most : ℕ) → given ≤ length xs → 1 ≤ most

@@ -1,8 +1,8 @@
 -- What a sequential run shares: everything but where each process is in its code.
-use Rattle.std.specs.Prelude.{ℕ, List, [], ◌∷◌, ◌++◌, Option, Some, None, Bool, false, ◌&&◌, ◌||◌, ◌==◌, nat_lt, if◌then◌else◌, slice_get, slice_set}
+use Rattle.std.specs.Prelude.{ℕ, List, [], ◌∷◌, ◌++◌, Option, Some, None, Bool, false, ◌&&◌, ◌==◌, nat_lt, if◌then◌else◌, slice_get, slice_set}
 use Rattle.ooo_time.specs.declared.time.Time.{Time}
 use Rattle.ooo_time.specs.declared.stamp.Stamp.{Stamp}
-use Rattle.ooo_time.specs.Stamps.{stamp_after}
+use Rattle.ooo_time.specs.Stamps.{is_before, stamp_after}
 use Rattle.ooo_sim.specs.declared.run.End.{End}
 use Rattle.ooo_sim.specs.declared.run.End.TheVariants as end
 
@@ -10,10 +10,6 @@ use Rattle.ooo_sim.specs.declared.run.End.TheVariants as end
 
 abbrev pub same_stamp : Stamp → Stamp → Bool
 same_stamp a b = (a.time.0 == b.time.0) && (a.delta == b.delta)
-
--- an earlier time, or an earlier delta cycle of the same time
-abbrev pub is_earlier : Stamp → Stamp → Bool
-is_earlier a b = nat_lt a.time.0 b.time.0 || ((a.time.0 == b.time.0) && nat_lt a.delta b.delta)
 
 abbrev pub stamp_of : ℕ → Stamp
 stamp_of t = record { time = record { 0 = t }; delta = 0 }
@@ -69,11 +65,11 @@ runs_now p w = is_due w.stamp (slice_get w.dues p)
 abbrev pub sooner : Option Stamp → Option Stamp → Option Stamp
 sooner None b = b
 sooner (Some a) None = Some a
-sooner (Some a) (Some b) = if is_earlier b a then Some b else Some a
+sooner (Some a) (Some b) = if is_before b a then Some b else Some a
 
 abbrev pub if_later : Stamp → Option Stamp → Option Stamp
 if_later now None = None
-if_later now (Some t) = if is_earlier now t then Some t else None
+if_later now (Some t) = if is_before now t then Some t else None
 
 -- the earliest stamp after this one at which a process is due
 abbrev pub next_due : Stamp → List (Option Stamp) → Option Stamp
