@@ -1,8 +1,7 @@
 -- How the classes of bytes lie to one another.
-use Rattle.std.proofs.Common.{◌≡◌, ℕ, true, false, eqb, arith}
+use Rattle.std.proofs.Common.{◌≡◌, ℕ, true, false, arith}
 use Rattle.std.proofs.lemmas.Bool.Decides.{nat_tests}
-use Rattle.ooo_lexer.specs.Bytes.{is_space, is_blank, is_digit, begins_word, is_word_byte, is_text_byte, is_line_byte}
-use Rattle.ooo_lexer.specs.Heads.{is_lone_sign}
+use Rattle.ooo_lexer.specs.Bytes.{is_space, is_blank, is_digit, begins_word, is_word_byte, is_line_byte}
 
 pub word_begins : (b : ℕ) → begins_word b ≡ true → is_word_byte b ≡ true
 word_begins b h = grind (arith, nat_tests)
@@ -18,21 +17,3 @@ word_is_no_space b h = grind (arith, nat_tests)
 
 pub blank_is_on_line : (b : ℕ) → is_blank b ≡ true → is_line_byte b ≡ true
 blank_is_on_line b h = grind (arith, nat_tests)
-
-pub word_is_on_line : (b : ℕ) → is_word_byte b ≡ true → is_line_byte b ≡ true
-word_is_on_line b h = grind (arith, nat_tests)
-
-pub text_is_on_line : (b : ℕ) → is_text_byte b ≡ true → is_line_byte b ≡ true
-text_is_on_line b h = grind (arith, nat_tests)
-
-pub sign_is_no_space : (b : ℕ) → is_lone_sign b ≡ true → is_space b ≡ false
-sign_is_no_space b h = grind (arith, nat_tests)
-
-pub sign_is_no_word : (b : ℕ) → is_lone_sign b ≡ true → is_word_byte b ≡ false
-sign_is_no_word b h = grind (arith, nat_tests)
-
-pub sign_is_no_quote : (b : ℕ) → is_lone_sign b ≡ true → eqb b 34 ≡ false
-sign_is_no_quote b h = grind (arith, nat_tests)
-
-pub sign_is_no_hash : (b : ℕ) → is_lone_sign b ≡ true → eqb b 35 ≡ false
-sign_is_no_hash b h = grind (arith, nat_tests)

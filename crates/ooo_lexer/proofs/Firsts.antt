@@ -1,336 +1,265 @@
--- The first piece that the code finds is the one that stands first.
-use Rattle.std.proofs.Common.{◌≡◌, ℕ, suc, ◌+◌, Bool, true, false, cond, not, eqb, leb, ◌&&◌, ◌||◌, List, [], ◌∷◌, ◌++◌, length, drop, Some, None, ◌⊎◌, inl, inr, ⊎_elim, refl, sym, ap, ◌∙◌, subst, arith, append_assoc, length-append, codes}
-use Rattle.std.specs.List.{list_all, list_any, prefix_len, take_while, starts_with, Contains}
-use Rattle.std.specs.Option.{option_map}
-use Rattle.std.specs.Str.{bytes_eq}
-use Rattle.std.proofs.lemmas.Bool.{and_parts, and_from, or_cases, eqb-true, eqb-false, leb-true, le-leb, ne_eqb, false≢true, not-true, not_from_true, cond-true, cond-false}
-use Rattle.std.proofs.lemmas.Bool.Decides.{Decides-eqb}
-use Rattle.std.proofs.lemmas.List.{append-nil}
-use Rattle.std.proofs.lemmas.List.Elements.{All-contains}
-use Rattle.std.proofs.lemmas.List.Sums.{take_while-cons, AllPass-from_list_all}
-use Rattle.std.proofs.lemmas.Map.Views.{Contains-from_any}
-use Rattle.std.proofs.lemmas.Slice.Eq.{bytes_eq-Decides, starts_is}
+-- What the code finds first is what stands there: a piece or a breach, and the other way round.
+use Rattle.std.proofs.Common.{◌≡◌, ℕ, suc, ◌+◌, Bool, true, false, cond, eqb, ◌&&◌, List, [], ◌∷◌, ◌++◌, length, take, drop, Ok, Err, Result, inl, inr, refl, sym, ap, ◌∙◌, subst, arith, append_assoc, length-append, append-nil, codes}
+use Rattle.std.specs.List.{list_all, prefix_len, take_while}
+use Rattle.std.proofs.lemmas.Bool.{and_parts, and_from, or_from, or_parts, eqb-true, ne_eqb, cond-true, cond-false}
+use Rattle.std.proofs.lemmas.List.{take_at}
+use Rattle.std.proofs.lemmas.List.Sums.{take_while-cons}
 use Rattle.ooo_lexer.specs.declared.bytes.Class.TheVariants as class
+use Rattle.ooo_lexer.specs.declared.error.LexError.{LexError}
+use Rattle.ooo_lexer.specs.declared.error.LexError.TheVariants as error
+use Rattle.ooo_lexer.specs.declared.flaw.Breach.{Breach}
+use Rattle.ooo_lexer.specs.declared.flaw.Breach.TheVariants as breach
+use Rattle.ooo_lexer.specs.declared.flaw.Flaw.{Flaw}
+use Rattle.ooo_lexer.specs.declared.heads.Head.{Head}
+use Rattle.ooo_lexer.specs.declared.heads.PieceKind.TheVariants as part
+use Rattle.ooo_lexer.specs.declared.numbers.Base.{Base}
+use Rattle.ooo_lexer.specs.declared.numbers.Suffix.{Suffix}
+use Rattle.ooo_lexer.specs.declared.numbers.Number.{Number}
 use Rattle.ooo_lexer.specs.declared.token.TokenKind.{TokenKind}
 use Rattle.ooo_lexer.specs.declared.token.TokenKind.TheVariants as kind
-use Rattle.ooo_lexer.specs.declared.heads.Head.{Head}
-use Rattle.ooo_lexer.specs.declared.heads.PieceKind.{PieceKind}
-use Rattle.ooo_lexer.specs.declared.heads.PieceKind.TheVariants as part
-use Rattle.ooo_lexer.specs.Bytes.{is_space, is_blank, is_digit, begins_word, is_word_byte, is_text_byte, is_line_byte}
-use Rattle.ooo_lexer.specs.Forms.{IsWord, IsNumber, IsSign, IsDirective, signs, headers}
-use Rattle.ooo_lexer.specs.Heads.{has, after_run, begins_with, is_nothing, is_number, token_head, head_of_run, text_head, is_header, ends_directive, is_include, directive_head, lone_signs, is_lone_sign, sign_head, head_at, head_of}
-use Rattle.ooo_lexer.specs.Pieces.{Piece, Space, Directive, Kept, bytes_of, IsOfKind, StopsBefore, IsLongestSign, IsLongest, StandsBefore}
-use Rattle.ooo_lexer.proofs.Classes.{word_begins, digit_goes_on, digit_begins_no_word, word_is_no_space, blank_is_on_line, sign_is_no_space, sign_is_no_word, sign_is_no_quote, sign_is_no_hash}
-use Rattle.ooo_lexer.proofs.Runs.{run_front, run_rest, run_whole, run_passes, run_stops, run_joins, all_wider, all_append}
-
--- a piece's kind, as the code has it
-abbrev pub kind_of : Piece → PieceKind
-kind_of (Space b) = part.Space
-kind_of (Directive bs) = part.Directive
-kind_of (Kept l) = part.Token l.kind
-
-abbrev pub head_from : Piece → Head
-head_from p = record { kind = kind_of p; length = length (bytes_of p) }
-
--- the head is that of a piece that stands first
-pub record First (xs : List ℕ) (h : Head) : Type 0 where
-  pub piece : Piece
-  pub rest : List ℕ
-  pub is : xs ≡ bytes_of piece ++ rest
-  pub stands : StandsBefore piece rest
-  pub head : h ≡ head_from piece
-
-by_test : {A P : Type 0} (t : Bool) {x y z : A} → cond t x y ≡ z → (t ≡ true → x ≡ z → P) → (t ≡ false → y ≡ z → P) → P
-by_test true e f g = f refl e
-by_test false e f g = g refl e
-
-same_head : {h k : Head} → Some h ≡ Some k → k ≡ h
-same_head e = cc
-
--- a test that each element passes, at one of them
-pub passes_each : (test : List ℕ → Bool) (ss : List (List ℕ)) (s : List ℕ) → list_all test ss ≡ true → Contains ss s → test s ≡ true
-passes_each test ss s all c = All-contains (λ x. test x ≡ true) ss s (AllPass-from_list_all test ss all) c
-
-begins_is : (x : ℕ) (bs : List ℕ) → begins_with x bs ≡ true → bs ≡ x ∷ drop 1 bs
-begins_is x [] e = absurd (false≢true e)
-begins_is x (b ∷ bs) e = ap (λ b. b ∷ bs) (eqb-true b x e)
-
-nothing_is : (bs : List ℕ) → is_nothing bs ≡ true → bs ≡ []
-nothing_is [] e = refl
-nothing_is (b ∷ bs) e = absurd (false≢true e)
+use Rattle.ooo_lexer.specs.Breaches.{BeginsNothing, IsBadNumber, IsBreach, bad_byte, bad_escape, text_not_closed, number_too_wide, bad_number, comment_not_closed, directive}
+use Rattle.ooo_lexer.specs.Bytes.{is_space, is_digit, begins_word, is_word_byte, is_line_byte}
+use Rattle.ooo_lexer.specs.Forms.{IsWord, IsSign, IsLineComment, IsBlockComment, IsDirective, HasNoEnd}
+use Rattle.ooo_lexer.specs.Heads.{head, flaw, error_of, error_at, block_head, close_at, head_of_number, text_head, directive_head, mark_head, head_at, head_of}
+use Rattle.ooo_lexer.specs.Numbers.{IsNumeral, IsNumber}
+use Rattle.ooo_lexer.specs.Numerals.{number_of}
+use Rattle.ooo_lexer.specs.Pieces.{Piece, Space, Comment, Directive, Kept, bytes_of, IsOfKind, StopsBefore, IsLongestSign, IsLongest, StandsBefore}
+use Rattle.ooo_lexer.specs.Places.{position_after}
+use Rattle.ooo_lexer.specs.Runs.{has, begins_with}
+use Rattle.ooo_lexer.specs.Texts.{Part, Stray, written_part, written, AreParts, HasNoStray, IsText, EndsLine}
+use Rattle.ooo_lexer.proofs.Classes.{word_begins, digit_goes_on, digit_begins_no_word, word_is_no_space}
+use Rattle.ooo_lexer.proofs.Comments.{line_sound, line_complete, block_sound, block_complete, block_open}
+use Rattle.ooo_lexer.proofs.Directives.{directive_sound, directive_complete, directive_bad}
+use Rattle.ooo_lexer.proofs.Finds.{head_from, First, Finds, begins_is}
+use Rattle.ooo_lexer.proofs.Numerals.{IsOutcome, number_sound, number_complete, wide_complete, bad_complete, numeral_is_word, numeral_begins}
+use Rattle.ooo_lexer.proofs.Runs.{run_front, run_passes, run_stops, run_joins}
+use Rattle.ooo_lexer.proofs.Signs.{sign_sound, sign_complete, sign_first, sign_has_bytes, nothing_complete}
+use Rattle.ooo_lexer.proofs.FoundTexts.{text_sound, text_complete, open_complete, stray_complete}
 
 -- ---- what the code finds
 
-number_is : (b : ℕ) (bs : List ℕ) → is_number (b ∷ bs) ≡ true → IsNumber (b ∷ bs)
-number_is b bs e = by_test (eqb b 48) e
-    (λ t e. inl (let i = eqb-true b 48 t in let j = nothing_is bs e in cc))
-    (λ t e. let parts = and_parts (leb (length (b ∷ bs)) 18) (list_all is_digit (b ∷ bs)) e in
-    inr ((eqb-false b 48 t, parts.1), leb-true (length (b ∷ bs)) 18 parts.0))
+-- what a choice by a test finds is what its branches find
+chosen : (xs : List ℕ) (t : Bool) (r s : Result Head Flaw) → (t ≡ true → Finds xs r) → (t ≡ false → Finds xs s) → Finds xs (cond t r s)
+chosen xs true r s f g = f refl
+chosen xs false r s f g = g refl
 
-space_found : (b : ℕ) (bs : List ℕ) (h : Head) → is_space b ≡ true → Some (record { kind = part.Space; length = 1 }) ≡ Some h → First (b ∷ bs) h
-space_found b bs h t e = record { piece = Space b; rest = bs; is = refl; stands = t; head = same_head e }
+-- the error of a flaw of the first byte
+here : (before xs : List ℕ) (k : Breach) → error_of k (position_after before) ≡ error_at before xs (flaw k 0)
+here before xs k = ap (λ x. error_of k (position_after x)) (sym (append-nil before))
 
-run_found : (b : ℕ) (bs : List ℕ) (h : Head) → is_word_byte b ≡ true → head_of_run (take_while (has class.Word) (b ∷ bs)) ≡ Some h → First (b ∷ bs) h
-run_found b bs h w e = at (begins_word b) refl (e' (ap head_of_run (take_while-cons is_word_byte b bs ∙ ap (λ t. cond t (b ∷ take_while is_word_byte bs) []) w)))
-  where
-    run : List ℕ
-    run = b ∷ take_while is_word_byte bs
-
-    e' : head_of_run (take_while is_word_byte (b ∷ bs)) ≡ head_of_run (b ∷ take_while is_word_byte bs) → head_of_run (b ∷ take_while is_word_byte bs) ≡ Some h
-    e' i = sym i ∙ e
-
-    number : (t : Bool) → is_number (b ∷ take_while is_word_byte bs) ≡ t → option_map (λ k. token_head k (length (b ∷ take_while is_word_byte bs))) (cond t (Some kind.Number) None) ≡ Some h → First (b ∷ bs) h
-    number true t e = record {
-      piece = Kept (record { kind = kind.Number; bytes = b ∷ take_while is_word_byte bs });
-      rest = drop (prefix_len is_word_byte bs) bs;
-      is = ap (λ bs. b ∷ bs) (sym (run_joins is_word_byte bs));
-      stands = (number_is b (take_while is_word_byte bs) t, run_stops is_word_byte bs);
-      head = same_head e;
-    }
-    number false t e = absurd cc
-
-    at : (t : Bool) → begins_word b ≡ t → option_map (λ k. token_head k (length (b ∷ take_while is_word_byte bs))) (cond t (Some kind.Word) (cond (is_number (b ∷ take_while is_word_byte bs)) (Some kind.Number) None)) ≡ Some h → First (b ∷ bs) h
-    at true t e = record {
-      piece = Kept (record { kind = kind.Word; bytes = b ∷ take_while is_word_byte bs });
-      rest = drop (prefix_len is_word_byte bs) bs;
-      is = ap (λ bs. b ∷ bs) (sym (run_joins is_word_byte bs));
-      stands = ((t, run_passes is_word_byte bs), run_stops is_word_byte bs);
-      head = same_head e;
-    }
-    at false t e = number (is_number (b ∷ take_while is_word_byte bs)) refl e
-
-text_found : (b : ℕ) (bs : List ℕ) (h : Head) → eqb b 34 ≡ true → text_head bs ≡ Some h → First (b ∷ bs) h
-text_found b bs h q e = by_test (begins_with 34 (after_run class.Text bs)) e
-    (λ t e.
-    let inside = take_while is_text_byte bs in
-    let after = after_run class.Text bs in
-    let opens = eqb-true b 34 q in
-    let closes = begins_is 34 after t in
-    let whole = sym (run_joins is_text_byte bs) ∙ ap (λ r. inside ++ r) closes ∙ sym (append_assoc inside (34 ∷ []) (drop 1 after)) in
+word_sound : (b : ℕ) (bs : List ℕ) → begins_word b ≡ true → First (b ∷ bs) (head (part.Token kind.Word) (length (take_while is_word_byte (b ∷ bs))))
+word_sound b bs begins =
+    let run = take_while is_word_byte (b ∷ bs) in
+    let starts = take_while-cons is_word_byte b bs ∙ cond-true (is_word_byte b) (b ∷ take_while is_word_byte bs) [] (word_begins b begins) in
     record {
-      piece = Kept (record { kind = kind.Text; bytes = 34 ∷ (inside ++ 34 ∷ []) });
-      rest = drop 1 after;
-      is = cc;
-      stands = (record { inside = inside; passes = run_passes is_text_byte bs; is = refl }, tt);
-      head = same_head e ∙ ap (λ n. token_head kind.Text n) (omega (arith, length-append inside (34 ∷ [])));
-    })
-    (λ t e. absurd cc)
-
--- equal bytes, as a test
-same_bytes : (xs ys : List ℕ) → bytes_eq xs ys ≡ true → xs ≡ ys
-same_bytes xs ys e = (bytes_eq-Decides xs ys).0 e
-
-header_is : (bs : List ℕ) → is_header bs ≡ true → Contains headers bs
-header_is bs e = Contains-from_any same_bytes bs headers e
-
--- what follows `include`, as a directive has it
-ends_found : (line parts : List ℕ) → line ≡ take_while is_blank line ++ (codes "include" ++ parts) → ends_directive (after_run class.Blank parts) ≡ true → IsDirective (35 ∷ line)
-ends_found line parts starts e =
-    let named = after_run class.Blank parts in
-    let header = take_while (has class.Solid) named in
-    let after = after_run class.Solid named in
-    let both = and_parts (is_header header) (is_nothing (after_run class.Blank after)) e in
-    let last = sym (run_joins is_blank after) ∙ ap (λ r. take_while is_blank after ++ r) (nothing_is (after_run class.Blank after) both.1) ∙ append-nil (take_while is_blank after) in
-    let blank = subst (λ bs. list_all is_blank bs ≡ true) (sym last) (run_passes is_blank after) in
-    let middle = sym (run_joins is_blank parts) ∙ ap (λ r. take_while is_blank parts ++ r) (sym (run_joins (has class.Solid) named)) in
-    record {
-      before = take_while is_blank line;
-      between = take_while is_blank parts;
-      header = header;
-      after = after;
-      blanks_before = run_passes is_blank line;
-      blanks_between = run_passes is_blank parts;
-      known = header_is header both.0;
-      blanks_after = blank;
-      is = ap (λ bs. 35 ∷ bs) (starts ∙ ap (λ r. take_while is_blank line ++ (codes "include" ++ r)) middle);
+      piece = Kept (record { kind = kind.Word; bytes = run });
+      rest = drop (prefix_len is_word_byte (b ∷ bs)) (b ∷ bs);
+      is = sym (run_joins is_word_byte (b ∷ bs));
+      stands = (subst IsWord (sym starts) (begins, run_passes is_word_byte bs), run_stops is_word_byte (b ∷ bs));
+      head = refl;
     }
 
-directive_is : (line : List ℕ) → is_include (after_run class.Blank line) ≡ true → IsDirective (35 ∷ line)
-directive_is line e =
-    let parts = after_run class.Blank line in
-    let both = and_parts (starts_with eqb parts (codes "include")) (ends_directive (after_run class.Blank (drop 7 parts))) e in
-    let begins = (starts_is Decides-eqb parts (codes "include") _ refl).0 both.0 in
-    ends_found line (drop 7 parts) (sym (run_joins is_blank line) ∙ ap (λ r. take_while is_blank line ++ r) begins) both.1
+-- a number, or why it is none, by its word bytes
+number_found : (b : ℕ) (bs rest : List ℕ) (r : Result Number Breach) → is_digit b ≡ true → list_all is_word_byte bs ≡ true → StopsBefore is_word_byte rest → IsOutcome (b ∷ bs) r
+    → Finds ((b ∷ bs) ++ rest) (head_of_number (length (b ∷ bs)) r)
+number_found b bs rest (Ok n) digit all stops outcome = record { piece = Kept (record { kind = kind.Number; bytes = b ∷ bs }); rest = rest; is = refl; stands = ((n, outcome), stops); head = refl }
+number_found b bs rest (Err breach.BadByte) digit all stops outcome = absurd outcome
+number_found b bs rest (Err breach.NumberTooWide) digit all stops outcome = record {
+  breach = λ before. number_too_wide (b ∷ bs) rest outcome stops refl (sym (here before ((b ∷ bs) ++ rest) breach.NumberTooWide));
+  within = omega arith;
+}
+number_found b bs rest (Err breach.TextNotClosed) digit all stops outcome = absurd outcome
+number_found b bs rest (Err breach.CommentNotClosed) digit all stops outcome = absurd outcome
+number_found b bs rest (Err breach.Directive) digit all stops outcome = absurd outcome
+number_found b bs rest (Err breach.BadNumber) digit all stops outcome = record {
+  breach = λ before. bad_number (b ∷ bs) rest (digit, (all, outcome)) stops refl (sym (here before ((b ∷ bs) ++ rest) breach.BadNumber));
+  within = omega arith;
+}
 
-directive_found : (b : ℕ) (bs : List ℕ) (h : Head) → eqb b 35 ≡ true → directive_head bs ≡ Some h → First (b ∷ bs) h
-directive_found b bs h q e = by_test (is_include (after_run class.Blank (take_while is_line_byte bs))) e
-    (λ t e.
-    let opens = eqb-true b 35 q in
-    let whole = sym (run_joins is_line_byte bs) in
-    record {
-      piece = Directive (35 ∷ take_while is_line_byte bs);
-      rest = drop (prefix_len is_line_byte bs) bs;
-      is = cc;
-      stands = (directive_is (take_while is_line_byte bs) t, run_stops is_line_byte bs);
-      head = same_head e ∙ ap (λ n. record { kind = part.Directive; length = n }) (omega arith);
-    })
-    (λ t e. absurd cc)
+number_at : (b : ℕ) (bs : List ℕ) → is_digit b ≡ true → Finds (b ∷ bs) (head_of_number (length (take_while is_word_byte (b ∷ bs))) (number_of (take_while is_word_byte (b ∷ bs))))
+number_at b bs digit =
+    let run = take_while is_word_byte (b ∷ bs) in
+    let starts = take_while-cons is_word_byte b bs ∙ cond-true (is_word_byte b) (b ∷ take_while is_word_byte bs) [] (digit_goes_on b digit) in
+    let found = number_found b (take_while is_word_byte bs) (drop (prefix_len is_word_byte (b ∷ bs)) (b ∷ bs)) (number_of (b ∷ take_while is_word_byte bs)) digit (run_passes is_word_byte bs) (run_stops is_word_byte (b ∷ bs)) (number_sound (b ∷ take_while is_word_byte bs)) in
+    let whole = ap (λ r. r ++ drop (prefix_len is_word_byte (b ∷ bs)) (b ∷ bs)) (sym starts) ∙ run_joins is_word_byte (b ∷ bs) in
+    let P : List ℕ → Type 0 = λ xs. Finds xs (head_of_number (length (b ∷ take_while is_word_byte bs)) (number_of (b ∷ take_while is_word_byte bs))) in
+    let Q : List ℕ → Type 0 = λ r. Finds (b ∷ bs) (head_of_number (length r) (number_of r)) in
+    subst Q (sym starts) (subst P whole found)
 
--- a sign is `<<`, or one byte
-abbrev pub is_lone : List ℕ → Bool
-is_lone [] = false
-is_lone (b ∷ bs) = is_lone_sign b && is_nothing bs
+-- two bytes of which a comment's mark is made
+mark_is : (b c : ℕ) (bs : List ℕ) → (eqb b 47 && begins_with c bs) ≡ true → b ∷ bs ≡ 47 ∷ c ∷ drop 1 bs
+mark_is b c bs e = let both = and_parts (eqb b 47) (begins_with c bs) e in let first = eqb-true b 47 both.0 in let second = begins_is c bs both.1 in cc
 
-lone_is : (s : List ℕ) → is_lone s ≡ true → (b : ℕ) × (s ≡ b ∷ []) × (is_lone_sign b ≡ true)
-lone_is [] e = absurd (false≢true e)
-lone_is (b ∷ bs) e = let both = and_parts (is_lone_sign b) (is_nothing bs) e in (b, ap (λ bs. b ∷ bs) (nothing_is bs both.1), both.0)
+mark_found : (b : ℕ) (bs : List ℕ) → is_space b ≡ false → is_word_byte b ≡ false → eqb b 34 ≡ false → eqb b 35 ≡ false → Finds (b ∷ bs) (mark_head b bs)
+mark_found b bs s w q h = chosen (b ∷ bs) (eqb b 47 && begins_with 47 bs) _ _
+    (λ t. let is = mark_is b 47 bs t in
+    let rest : bs ≡ 47 ∷ drop 1 bs = ap (drop 1) is in
+    let P : List ℕ → Type 0 = λ xs. First xs (head part.Comment (length (take_while (has class.Line) (drop 1 xs)) + 1)) in
+    subst P (sym is) (line_sound (drop 1 bs)))
+    (λ f. chosen (b ∷ bs) (eqb b 47 && begins_with 42 bs) _ _
+    (λ t. let is = mark_is b 42 bs t in
+    let P : List ℕ → Type 0 = λ xs. Finds xs (block_head (close_at (drop 2 xs))) in
+    subst P (sym is) (block_sound (drop 1 bs)))
+    (λ g. sign_sound b bs s w q h f g))
 
-pub sign_shape : (s : List ℕ) → IsSign s → (s ≡ codes "<<") ⊎ ((b : ℕ) × (s ≡ b ∷ []) × (is_lone_sign b ≡ true))
-sign_shape s c = ⊎_elim (λ e. inl (same_bytes s (codes "<<") e)) (λ e. inr (lone_is s e))
-    (or_cases (bytes_eq s (codes "<<")) (is_lone s) (passes_each (λ s. bytes_eq s (codes "<<") || is_lone s) signs s refl c))
-
-lone_is_sign : (b : ℕ) → is_lone_sign b ≡ true → IsSign (b ∷ [])
-lone_is_sign b e =
-    let listed = Contains-from_any eqb-true b lone_signs e in
-    let each = All-contains (λ c. list_any (λ s. bytes_eq (c ∷ []) s) signs ≡ true) lone_signs b (AllPass-from_list_all (λ c. list_any (λ s. bytes_eq (c ∷ []) s) signs) lone_signs refl) listed in
-    Contains-from_any same_bytes (b ∷ []) signs each
-
-lone_is_longest : (b : ℕ) (rest : List ℕ) → is_lone_sign b ≡ true → IsLongestSign (b ∷ []) rest
-lone_is_longest b rest e longer after sign is = ⊎_elim
-    (λ two. let i : b ≡ 60 = cc in let f = ap is_lone_sign i in absurd (false≢true (sym f ∙ e)))
-    (λ (c, one, lone). omega (arith, ap length one))
-    (sign_shape longer sign)
-
-two_is_longest : (rest : List ℕ) → IsLongestSign (codes "<<") rest
-two_is_longest rest longer after sign is = ⊎_elim (λ two. omega (arith, ap length two)) (λ (c, one, lone). omega (arith, ap length one)) (sign_shape longer sign)
-
-sign_found : (b : ℕ) (bs : List ℕ) (h : Head) → sign_head b bs ≡ Some h → First (b ∷ bs) h
-sign_found b bs h e = by_test (is_lone_sign b) e
-    (λ t e. record {
-      piece = Kept (record { kind = kind.Sign; bytes = b ∷ [] });
-      rest = bs;
-      is = refl;
-      stands = (lone_is_sign b t, lone_is_longest b bs t);
-      head = same_head e;
-    })
-    (λ _ e. by_test (eqb b 60 && begins_with 60 bs) e
-    (λ t e.
-    let both = and_parts (eqb b 60) (begins_with 60 bs) t in
-    let first = eqb-true b 60 both.0 in
-    let second = begins_is 60 bs both.1 in
-    record {
-      piece = Kept (record { kind = kind.Sign; bytes = codes "<<" });
-      rest = drop 1 bs;
-      is = cc;
-      stands = (Contains-from_any same_bytes (codes "<<") signs refl, two_is_longest (drop 1 bs));
-      head = same_head e;
-    })
-    (λ t e. absurd cc))
-
-pub sound : (xs : List ℕ) (h : Head) → head_of xs ≡ Some h → First xs h
+pub sound : (b : ℕ) (bs : List ℕ) → Finds (b ∷ bs) (head_of (b ∷ bs))
 unfolding head_of head_at
-sound [] h e = absurd cc
-sound (b ∷ bs) h e = by_test (is_space b) e (λ t e. space_found b bs h t e)
-    (λ _ e. by_test (is_word_byte b) e (λ t e. run_found b bs h t e)
-    (λ _ e. by_test (eqb b 34) e (λ t e. text_found b bs h t e)
-    (λ _ e. by_test (eqb b 35) e (λ t e. directive_found b bs h t e) (λ _ e. sign_found b bs h e))))
+sound b bs = chosen (b ∷ bs) (is_space b) _ _
+    (λ t. record { piece = Space b; rest = bs; is = refl; stands = t; head = refl })
+    (λ s. chosen (b ∷ bs) (begins_word b) _ _ (λ t. word_sound b bs t)
+    (λ w. chosen (b ∷ bs) (is_digit b) _ _ (λ t. number_at b bs t)
+    (λ d. chosen (b ∷ bs) (eqb b 34) _ _ (λ t. let is = eqb-true b 34 t in subst (λ b. Finds (b ∷ bs) (text_head bs)) (sym is) (text_sound bs))
+    (λ q. chosen (b ∷ bs) (eqb b 35) _ _ (λ t. let is = eqb-true b 35 t in subst (λ b. Finds (b ∷ bs) (directive_head bs)) (sym is) (directive_sound bs))
+    (λ h. mark_found b bs s (or_from (begins_word b) (is_digit b) w d) q h)))))
 
--- ---- what the code finds is what stands there
+-- ---- what stands there is what the code finds
 
-text_complete : (inside rest : List ℕ) → list_all is_text_byte inside ≡ true → head_of ((34 ∷ (inside ++ 34 ∷ [])) ++ rest) ≡ Some (token_head kind.Text (length (34 ∷ (inside ++ 34 ∷ []))))
+word_complete : (bs rest : List ℕ) → IsWord bs → StopsBefore is_word_byte rest → head_of (bs ++ rest) ≡ Ok (head (part.Token kind.Word) (length bs))
 unfolding head_of head_at
-text_complete inside rest all =
-    let front = run_front is_text_byte inside (34 ∷ rest) all refl in
-    let back = run_rest is_text_byte inside (34 ∷ rest) all refl in
-    let n : length inside + 2 ≡ suc (length (inside ++ 34 ∷ [])) = omega (arith, length-append inside (34 ∷ [])) in
-    rw (append_assoc inside (34 ∷ []) rest, front, back) (ap (λ n. Some (token_head kind.Text n)) n)
-
-word_at : (b : ℕ) (bs run : List ℕ) → is_word_byte b ≡ true → take_while is_word_byte (b ∷ bs) ≡ run → head_of (b ∷ bs) ≡ head_of_run run
-unfolding head_of head_at
-word_at b bs run w e = cond-false (is_space b) _ _ (word_is_no_space b w) ∙ cond-true (is_word_byte b) _ _ w ∙ ap head_of_run e
-
-run_complete : (b : ℕ) (bs rest : List ℕ) → list_all is_word_byte (b ∷ bs) ≡ true → StopsBefore is_word_byte rest → head_of ((b ∷ bs) ++ rest) ≡ head_of_run (b ∷ bs)
-run_complete b bs rest all stops = word_at b (bs ++ rest) (b ∷ bs) (and_parts (is_word_byte b) (list_all is_word_byte bs) all).0 (run_front is_word_byte (b ∷ bs) rest all stops)
-
-word_complete : (bs rest : List ℕ) → IsWord bs → StopsBefore is_word_byte rest → head_of (bs ++ rest) ≡ Some (token_head kind.Word (length bs))
 word_complete [] rest is stops = absurd is
 word_complete (b ∷ bs) rest is stops =
-    let begins = is.0 in
-    run_complete b bs rest (and_from (is_word_byte b) (list_all is_word_byte bs) (word_begins b begins) is.1) stops ∙ rw begins refl
+    let goes = word_begins b is.0 in
+    let front = run_front is_word_byte (b ∷ bs) rest (and_from (is_word_byte b) (list_all is_word_byte bs) goes is.1) stops in
+    cond-false (is_space b) _ _ (word_is_no_space b goes) ∙ cond-true (begins_word b) _ _ is.0 ∙ ap (λ r. Ok (head (part.Token kind.Word) (length r))) front
 
-number_complete : (bs rest : List ℕ) → IsNumber bs → StopsBefore is_word_byte rest → head_of (bs ++ rest) ≡ Some (token_head kind.Number (length bs))
-number_complete [] rest is stops = absurd (⊎_elim (λ e. let P : ⊥ = cc in P) (λ d. d.0) is)
-number_complete (b ∷ bs) rest (inl zero) stops =
-    let P : List ℕ → Type 0 = λ bs. head_of (bs ++ rest) ≡ Some (token_head kind.Number (length bs)) in
-    subst P (sym zero) (run_complete 48 [] rest refl stops)
-number_complete (b ∷ bs) rest (inr decimal) stops =
-    let digits = decimal.0.1 in
-    let no_word = digit_begins_no_word b (and_parts (is_digit b) (list_all is_digit bs) digits).0 in
-    let number = cond-false (eqb b 48) (is_nothing bs) _ (ne_eqb b 48 decimal.0.0) ∙ and_from (leb (length (b ∷ bs)) 18) (list_all is_digit (b ∷ bs)) (le-leb (length (b ∷ bs)) 18 decimal.1) digits in
-    run_complete b bs rest (all_wider is_digit is_word_byte digit_goes_on (b ∷ bs) digits) stops
-    ∙ ap (option_map (λ k. token_head k (length (b ∷ bs)))) (cond-false (begins_word b) (Some kind.Word) _ no_word ∙ cond-true (is_number (b ∷ bs)) (Some kind.Number) None number)
-
-lone_complete : (b : ℕ) (rest : List ℕ) → is_lone_sign b ≡ true → head_of (b ∷ rest) ≡ Some (token_head kind.Sign 1)
+-- what begins with a digit is a number or none by its word bytes
+digits_at : (b : ℕ) (bs rest : List ℕ) → is_digit b ≡ true → list_all is_word_byte (b ∷ bs) ≡ true → StopsBefore is_word_byte rest → head_of ((b ∷ bs) ++ rest) ≡ head_of_number (length (b ∷ bs)) (number_of (b ∷ bs))
 unfolding head_of head_at
-lone_complete b rest e = cond-false (is_space b) _ _ (sign_is_no_space b e) ∙ cond-false (is_word_byte b) _ _ (sign_is_no_word b e) ∙ cond-false (eqb b 34) _ _ (sign_is_no_quote b e) ∙ cond-false (eqb b 35) _ _ (sign_is_no_hash b e) ∙ cond-true (is_lone_sign b) _ _ e
+digits_at b bs rest digit all stops =
+    let front = run_front is_word_byte (b ∷ bs) rest all stops in
+    cond-false (is_space b) _ _ (word_is_no_space b (digit_goes_on b digit)) ∙ cond-false (begins_word b) _ _ (digit_begins_no_word b digit) ∙ cond-true (is_digit b) _ _ digit
+    ∙ ap (λ r. head_of_number (length r) (number_of r)) front
 
-sign_complete : (bs rest : List ℕ) → IsSign bs → head_of (bs ++ rest) ≡ Some (token_head kind.Sign (length bs))
+numeral_at : (bs rest : List ℕ) (b : Base) (ds : List ℕ) (s : Suffix) → IsNumeral bs b ds s → StopsBefore is_word_byte rest → head_of (bs ++ rest) ≡ head_of_number (length bs) (number_of bs)
+numeral_at bs rest b ds s is stops =
+    let begins = numeral_begins bs b ds s is in
+    let P : List ℕ → Type 0 = λ bs. head_of (bs ++ rest) ≡ head_of_number (length bs) (number_of bs) in
+    let all = subst (λ bs. list_all is_word_byte bs ≡ true) begins.2 (numeral_is_word bs b ds s is) in
+    subst P (sym begins.2) (digits_at begins.0 begins.1 rest begins.3 all stops)
+
+number_complete_at : (bs rest : List ℕ) → IsNumber bs → StopsBefore is_word_byte rest → head_of (bs ++ rest) ≡ Ok (head (part.Token kind.Number) (length bs))
+number_complete_at bs rest is stops = numeral_at bs rest is.1.base is.1.digits is.1.suffix is.1.numeral stops ∙ ap (head_of_number (length bs)) (number_complete bs is.0 is.1)
+
+text_complete_at : (bs rest : List ℕ) → IsText bs → head_of (bs ++ rest) ≡ Ok (head (part.Token kind.Text) (length bs))
 unfolding head_of head_at
-sign_complete bs rest sign = ⊎_elim
-    (λ two. subst (λ bs. head_of (bs ++ rest) ≡ Some (token_head kind.Sign (length bs))) (sym two) refl)
-    (λ (b, one, lone). subst (λ bs. head_of (bs ++ rest) ≡ Some (token_head kind.Sign (length bs))) (sym one) (lone_complete b rest lone))
-    (sign_shape bs sign)
+text_complete_at bs rest is =
+    let P : List ℕ → Type 0 = λ bs. head_of (bs ++ rest) ≡ Ok (head (part.Token kind.Text) (length bs)) in
+    let n : length (written is.parts) + 2 ≡ suc (length (written is.parts ++ 34 ∷ [])) = omega (arith, length-append (written is.parts) (34 ∷ [])) in
+    subst P (sym is.is) (ap text_head (append_assoc (written is.parts) (34 ∷ []) rest) ∙ text_complete is.parts rest is.stand is.clean ∙ ap (λ n. Ok (head (part.Token kind.Text) n)) n)
 
-token_complete : (k : TokenKind) (bs rest : List ℕ) → IsOfKind k bs → IsLongest k bs rest → head_of (bs ++ rest) ≡ Some (token_head k (length bs))
+-- a sign's first byte begins no other piece
+sign_complete_at : (bs rest : List ℕ) → IsSign bs → IsLongestSign bs rest → head_of (bs ++ rest) ≡ Ok (head (part.Token kind.Sign) (length bs))
+unfolding head_of head_at
+sign_complete_at [] rest is longest = absurd (omega (arith, sign_has_bytes [] is))
+sign_complete_at (b ∷ cs) rest is longest =
+    let first = sign_first b cs is in
+    cond-false (is_space b) _ _ first.0 ∙ cond-false (begins_word b) _ _ first.1.0 ∙ cond-false (is_digit b) _ _ first.1.1.0 ∙ cond-false (eqb b 34) _ _ first.1.1.1.0 ∙ cond-false (eqb b 35) _ _ first.1.1.1.1
+    ∙ sign_complete b cs rest is longest
+
+token_complete : (k : TokenKind) (bs rest : List ℕ) → IsOfKind k bs → IsLongest k bs rest → head_of (bs ++ rest) ≡ Ok (head (part.Token k) (length bs))
 token_complete kind.Word bs rest is longest = word_complete bs rest is longest
-token_complete kind.Number bs rest is longest = number_complete bs rest is longest
-token_complete kind.Text bs rest is longest = subst (λ bs. head_of (bs ++ rest) ≡ Some (token_head kind.Text (length bs))) (sym is.is) (text_complete is.inside rest is.passes)
-token_complete kind.Sign bs rest is longest = sign_complete bs rest is
+token_complete kind.Number bs rest is longest = number_complete_at bs rest is longest
+token_complete kind.Text bs rest is longest = text_complete_at bs rest is
+token_complete kind.Sign bs rest is longest = sign_complete_at bs rest is longest
 
-abbrev solid_first : List ℕ → Bool
-solid_first [] = false
-solid_first (b ∷ bs) = not (is_blank b)
-
-header_stops : (header after : List ℕ) → solid_first header ≡ true → StopsBefore is_blank (header ++ after)
-header_stops [] after e = absurd (false≢true e)
-header_stops (b ∷ bs) after e = not-true (is_blank b) e
-
-blanks_stop : (after : List ℕ) → list_all is_blank after ≡ true → StopsBefore (has class.Solid) after
-blanks_stop [] all = tt
-blanks_stop (b ∷ bs) all = not_from_true (is_blank b) (and_parts (is_blank b) (list_all is_blank bs) all).0
-
-ends_complete : (header after : List ℕ) → Contains headers header → list_all is_blank after ≡ true → ends_directive (header ++ after) ≡ true
-ends_complete header after known blank =
-    let solid = passes_each (list_all (has class.Solid)) headers header refl known in
-    let stops = blanks_stop after blank in
-    let front = run_front (has class.Solid) header after solid stops in
-    let back = run_rest (has class.Solid) header after solid stops in
-    and_from (is_header (take_while (has class.Solid) (header ++ after))) (is_nothing (after_run class.Blank (after_run class.Solid (header ++ after))))
-    (ap is_header front ∙ passes_each is_header headers header refl known)
-    (ap (λ r. is_nothing (after_run class.Blank r)) back ∙ ap is_nothing (run_whole is_blank after blank))
-
-include_complete : (bs : List ℕ) (is : IsDirective bs) → is_include (after_run class.Blank (is.before ++ (codes "include" ++ (is.between ++ (is.header ++ is.after))))) ≡ true
-include_complete bs is =
-    let first = run_rest is_blank is.before (codes "include" ++ (is.between ++ (is.header ++ is.after))) is.blanks_before refl in
-    let second = run_rest is_blank is.between (is.header ++ is.after) is.blanks_between (header_stops is.header is.after (passes_each solid_first headers is.header refl is.known)) in
-    ap is_include first ∙ ap ends_directive second ∙ ends_complete is.header is.after is.known is.blanks_after
-
-blanks_on_line : (bs : List ℕ) → list_all is_blank bs ≡ true → list_all is_line_byte bs ≡ true
-blanks_on_line bs all = all_wider is_blank is_line_byte blank_is_on_line bs all
-
--- what follows the `#` of a directive has no line feed
-pub directive_on_line : (bs : List ℕ) (is : IsDirective bs) → list_all is_line_byte (is.before ++ (codes "include" ++ (is.between ++ (is.header ++ is.after)))) ≡ true
-directive_on_line bs is =
-    let named = passes_each (list_all is_line_byte) headers is.header refl is.known in
-    let last = all_append is_line_byte is.header is.after named (blanks_on_line is.after is.blanks_after) in
-    let middle = all_append is_line_byte is.between (is.header ++ is.after) (blanks_on_line is.between is.blanks_between) last in
-    all_append is_line_byte is.before (codes "include" ++ (is.between ++ (is.header ++ is.after))) (blanks_on_line is.before is.blanks_before) middle
-
-directive_complete : (bs rest : List ℕ) → IsDirective bs → StopsBefore is_line_byte rest → head_of (bs ++ rest) ≡ Some (record { kind = part.Directive; length = length bs })
+directive_complete_at : (bs rest : List ℕ) → IsDirective bs → StopsBefore is_line_byte rest → head_of (bs ++ rest) ≡ Ok (head part.Directive (length bs))
 unfolding head_of head_at
-directive_complete bs rest is stops =
-    let body = is.before ++ (codes "include" ++ (is.between ++ (is.header ++ is.after))) in
-    let front = run_front is_line_byte body rest (directive_on_line bs is) stops in
-    let P : List ℕ → Type 0 = λ bs. head_of (bs ++ rest) ≡ Some (record { kind = part.Directive; length = length bs }) in
-    let n : length body + 1 ≡ suc (length body) = omega arith in
-    subst P (sym is.is) (ap (λ line. cond (is_include (after_run class.Blank line)) (Some (record { kind = part.Directive; length = length line + 1 })) None) front
-    ∙ cond-true (is_include (after_run class.Blank body)) _ None (include_complete bs is) ∙ ap (λ n. Some (record { kind = part.Directive; length = n })) n)
+directive_complete_at bs rest is stops =
+    let line = is.before ++ (codes "include" ++ (is.between ++ (is.header ++ (is.after ++ is.note)))) in
+    let P : List ℕ → Type 0 = λ bs. head_of (bs ++ rest) ≡ Ok (head part.Directive (length bs)) in
+    let n : length line + 1 ≡ suc (length line) = omega arith in
+    subst P (sym is.is) (directive_complete line rest (subst IsDirective is.is is) stops ∙ ap (λ n. Ok (head part.Directive n)) n)
 
-pub complete : (p : Piece) (rest : List ℕ) → StandsBefore p rest → head_of (bytes_of p ++ rest) ≡ Some (head_from p)
+line_complete_at : (bs rest : List ℕ) → IsLineComment bs → StopsBefore is_line_byte rest → head_of (bs ++ rest) ≡ Ok (head part.Comment (length bs))
 unfolding head_of head_at
-complete (Space b) rest stands = rw stands refl
-complete (Directive bs) rest stands = directive_complete bs rest stands.0 stands.1
+line_complete_at bs rest is stops =
+    let P : List ℕ → Type 0 = λ bs. head_of (bs ++ rest) ≡ Ok (head part.Comment (length bs)) in
+    let n : length is.inside + 2 ≡ suc (suc (length is.inside)) = omega arith in
+    subst P (sym is.is) (line_complete is.inside rest is.on_line stops ∙ ap (λ n. Ok (head part.Comment n)) n)
+
+block_complete_at : (bs rest : List ℕ) → IsBlockComment bs → head_of (bs ++ rest) ≡ Ok (head part.Comment (length bs))
+unfolding head_of head_at
+block_complete_at bs rest is =
+    let P : List ℕ → Type 0 = λ bs. head_of (bs ++ rest) ≡ Ok (head part.Comment (length bs)) in
+    let n : length is.inside + 4 ≡ suc (suc (length (is.inside ++ codes "*/"))) = omega (arith, length-append is.inside (codes "*/")) in
+    subst P (sym is.is) (ap (λ r. mark_head 47 (42 ∷ r)) (append_assoc is.inside (codes "*/") rest) ∙ block_complete is.inside rest is.first ∙ ap (λ n. Ok (head part.Comment n)) n)
+
+pub complete : (p : Piece) (rest : List ℕ) → StandsBefore p rest → head_of (bytes_of p ++ rest) ≡ Ok (head_from p)
+unfolding head_of head_at
+complete (Space b) rest stands = cond-true (is_space b) _ _ stands
+complete (Comment bs) rest (inl line) = line_complete_at bs rest line.0 line.1
+complete (Comment bs) rest (inr block) = block_complete_at bs rest block
+complete (Directive bs) rest stands = directive_complete_at bs rest stands.0 stands.1
 complete (Kept l) rest stands = token_complete l.kind l.bytes rest stands.0 stands.1
 
-pub hook : Unit {0}
-hook = tt
+-- ---- a breach that stands there is the code's flaw
+
+-- the code finds this same where these bytes begin
+pub record Flawed (before rest : List ℕ) (e : LexError) : Type 0 where
+  pub flaw : Flaw
+  pub head : head_of rest ≡ Err flaw
+  pub error : e ≡ error_at before rest flaw
+
+flawed_here : (before rest : List ℕ) (e : LexError) (k : Breach) → head_of rest ≡ Err (flaw k 0) → e ≡ error_of k (position_after before) → Flawed before rest e
+flawed_here before rest e k head same = record { flaw = flaw k 0; head = head; error = same ∙ here before rest k }
+
+nothing_at : (b : ℕ) (bs : List ℕ) → BeginsNothing (b ∷ bs) → head_of (b ∷ bs) ≡ Err (flaw breach.BadByte 0)
+unfolding head_of head_at
+nothing_at b bs is =
+    let same : b ≡ is.byte = cc in
+    let at : (f : ℕ → Bool) → f b ≡ f is.byte = λ f. ap f same in
+    let parts = or_parts (begins_word b) (is_digit b) (at is_word_byte ∙ is.no_word) in
+    cond-false (is_space b) _ _ (at is_space ∙ is.no_space) ∙ cond-false (begins_word b) _ _ parts.0 ∙ cond-false (is_digit b) _ _ parts.1
+    ∙ cond-false (eqb b 34) _ _ (at (λ b. eqb b 34) ∙ ne_eqb is.byte 34 is.no_text) ∙ cond-false (eqb b 35) _ _ (at (λ b. eqb b 35) ∙ ne_eqb is.byte 35 is.no_directive)
+    ∙ nothing_complete b bs is
+
+written_append : (ps qs : List Part) → written (ps ++ qs) ≡ written ps ++ written qs
+written_append [] qs = refl
+written_append (p ∷ ps) qs = ap (λ r. written_part p ++ r) (written_append ps qs) ∙ sym (append_assoc (written_part p) (written ps) (written qs))
+
+stray_at : (before : List ℕ) (parts later : List Part) (after : List ℕ) (e : LexError) → AreParts (parts ++ Stray ∷ later) (34 ∷ after) → HasNoStray parts
+    → e ≡ error.BadByte (position_after (before ++ 34 ∷ written parts)) → Flawed before (34 ∷ (written (parts ++ Stray ∷ later) ++ 34 ∷ after)) e
+unfolding head_of head_at
+stray_at before parts later after e are clean same =
+    let tail = written (Stray ∷ later) ++ 34 ∷ after in
+    let rest = 34 ∷ (written (parts ++ Stray ∷ later) ++ 34 ∷ after) in
+    let whole : rest ≡ (34 ∷ written parts) ++ tail = ap (λ r. 34 ∷ (r ++ 34 ∷ after)) (written_append parts (Stray ∷ later)) ∙ ap (λ r. 34 ∷ r) (append_assoc (written parts) (written (Stray ∷ later)) (34 ∷ after)) in
+    let n : length (written parts) + 1 ≡ length (34 ∷ written parts) = omega arith in
+    let front : take (length (written parts) + 1) rest ≡ 34 ∷ written parts = ap (take (length (written parts) + 1)) whole ∙ take_at (34 ∷ written parts) tail (length (written parts) + 1) (sym n) in
+    record {
+      flaw = flaw breach.BadByte (length (written parts) + 1);
+      head = stray_complete parts later after are clean;
+      error = same ∙ ap (λ x. error.BadByte (position_after (before ++ x))) (sym front);
+    }
+
+text_flawed : (before : List ℕ) (parts : List Part) (after : List ℕ) (e : LexError) → AreParts parts after → EndsLine after → e ≡ error.TextNotClosed (position_after before) → Flawed before (34 ∷ (written parts ++ after)) e
+unfolding head_of head_at
+text_flawed before parts after e are ends same = flawed_here before (34 ∷ (written parts ++ after)) e breach.TextNotClosed (open_complete parts after are ends) same
+
+comment_flawed : (before after : List ℕ) (e : LexError) → HasNoEnd after → e ≡ error.CommentNotClosed (position_after before) → Flawed before (codes "/*" ++ after) e
+unfolding head_of head_at
+comment_flawed before after e none same = flawed_here before (codes "/*" ++ after) e breach.CommentNotClosed (block_open after none) same
+
+directive_flawed : (before line after : List ℕ) (e : LexError) → list_all is_line_byte line ≡ true → StopsBefore is_line_byte after → (IsDirective (35 ∷ line) → ⊥) → e ≡ error.Directive (position_after before) → Flawed before (35 ∷ (line ++ after)) e
+unfolding head_of head_at
+directive_flawed before line after e on stops none same = flawed_here before (35 ∷ (line ++ after)) e breach.Directive (directive_bad line after on stops none) same
+
+number_flawed : (before bs after : List ℕ) (e : LexError) → IsBadNumber bs → StopsBefore is_word_byte after → e ≡ error.BadNumber (position_after before) → Flawed before (bs ++ after) e
+number_flawed before [] after e is stops same = absurd is
+number_flawed before (b ∷ bs) after e is stops same =
+    let all = and_from (is_word_byte b) (list_all is_word_byte bs) (digit_goes_on b is.0) is.1.0 in
+    flawed_here before ((b ∷ bs) ++ after) e breach.BadNumber (digits_at b bs after is.0 all stops ∙ ap (head_of_number (length (b ∷ bs))) (bad_complete (b ∷ bs) is.1.1)) same
+
+begins_flawed : (before rest : List ℕ) (e : LexError) → BeginsNothing rest → e ≡ error.BadByte (position_after before) → Flawed before rest e
+begins_flawed before [] e is same = absurd (let P : ⊥ = cc (is.is) in P)
+begins_flawed before (b ∷ bs) e is same = flawed_here before (b ∷ bs) e breach.BadByte (nothing_at b bs is) same
+
+pub flawed : (before rest : List ℕ) (e : LexError) → IsBreach before rest e → Flawed before rest e
+flawed before rest e (bad_byte is same) = begins_flawed before rest e is same
+flawed before rest e (bad_escape parts later after are clean is same) = subst (λ r. Flawed before r e) (sym is) (stray_at before parts later after e are clean same)
+flawed before rest e (text_not_closed parts after are ends is same) = subst (λ r. Flawed before r e) (sym is) (text_flawed before parts after e are ends same)
+flawed before rest e (number_too_wide bs after wide stops is same) = subst (λ r. Flawed before r e) (sym is)
+    (flawed_here before (bs ++ after) e breach.NumberTooWide (numeral_at bs after wide.base wide.digits wide.suffix wide.numeral stops ∙ ap (head_of_number (length bs)) (wide_complete bs wide)) same)
+flawed before rest e (bad_number bs after bad stops is same) = subst (λ r. Flawed before r e) (sym is) (number_flawed before bs after e bad stops same)
+flawed before rest e (comment_not_closed after none is same) = subst (λ r. Flawed before r e) (sym is) (comment_flawed before after e none same)
+flawed before rest e (directive line after on stops none is same) = subst (λ r. Flawed before r e) (sym is) (directive_flawed before line after e on stops none same)

@@ -1,7 +1,16 @@
 pub mod Classes
 pub mod Runs
-pub mod Firsts
+pub mod Finds
 pub mod Positions
+pub mod Parts
+pub mod FoundTexts
+pub mod Digits
+pub mod Numerals
+pub mod Directives
+pub mod Comments
+pub mod Signs
+pub mod Firsts
 pub mod Cuttings
 pub mod Progress
+pub mod Decided
 pub mod Lexemes

@@ -1,11 +1,14 @@
 -- The line and the column after bytes, as more bytes come.
-use Rattle.std.proofs.Common.{◌≡◌, ℕ, ◌+◌, ◌-◌, ◌≤◌, Bool, true, cond, eqb, List, [], ◌∷◌, ◌++◌, length, refl, sym, ap, ◌∙◌, arith, append_assoc}
-use Rattle.std.specs.List.{list_all, suffix_len}
-use Rattle.std.proofs.lemmas.Bool.{and_parts, cond-true, not-true}
+use Rattle.std.proofs.Common.{◌≡◌, ℕ, ◌+◌, ◌-◌, ◌≤◌, Bool, true, cond, eqb, List, [], ◌∷◌, ◌++◌, length, refl, sym, ap, subst, ◌∙◌, arith, append_assoc, length-append}
+use Rattle.std.specs.List.{suffix_len}
+use Rattle.std.proofs.lemmas.Bool.{cond-true, not-true, eqb-true}
 use Rattle.std.proofs.lemmas.List.{append-nil, length-drop, reverse-append}
 use Rattle.std.proofs.lemmas.List.Sums.{sum_by_push, suffix_len-le-length, count_by-le-length}
 use Rattle.ooo_lexer.specs.Bytes.{is_line_byte}
-use Rattle.ooo_lexer.specs.Places.{line_after, column_after}
+use Rattle.ooo_lexer.specs.declared.place.Place.{Place}
+use Rattle.ooo_lexer.specs.Places.{line_after, column_after, position_after}
+use Rattle.ooo_lexer.specs.Steps.{place_after_byte, place_after, position_of}
+use Rattle.ooo_lexer.proofs.Finds.{by_test}
 
 -- the column as a count
 column_is : (xs : List ℕ) → column_after xs ≡ suffix_len is_line_byte xs + 1
@@ -37,20 +40,36 @@ column_after_byte xs b on_line =
     let h = column_is (xs ++ b ∷ []) in
     omega arith
 
-pub line_stays : (xs bs : List ℕ) → list_all is_line_byte bs ≡ true → line_after (xs ++ bs) ≡ line_after xs
-line_stays xs [] all = ap line_after (append-nil xs)
-line_stays xs (b ∷ bs) all =
-    let parts = and_parts (is_line_byte b) (list_all is_line_byte bs) all in
-    ap line_after (sym (append_assoc xs (b ∷ []) bs)) ∙ line_stays (xs ++ b ∷ []) bs parts.1 ∙ line_after_byte xs b parts.0
+-- the place is the one after these bytes
+pub record IsAfter (before : List ℕ) (at : Place) : Type 0 where
+  pub start : at.start ≡ length before
+  pub line : at.line ≡ line_after before
+  pub column : at.column ≡ column_after before
 
-pub column_grows : (xs bs : List ℕ) → list_all is_line_byte bs ≡ true → column_after (xs ++ bs) ≡ column_after xs + length bs
-column_grows xs [] all = let e = ap column_after (append-nil xs) in omega arith
-column_grows xs (b ∷ bs) all =
-    let parts = and_parts (is_line_byte b) (list_all is_line_byte bs) all in
-    let e = ap column_after (append_assoc xs (b ∷ []) bs) in
-    let f = column_grows (xs ++ b ∷ []) bs parts.1 in
-    let g = column_after_byte xs b parts.0 in
-    omega arith
+pub first_place : IsAfter [] (record { start = 0; line = 1; column = 1 })
+first_place = record { start = refl; line = refl; column = refl }
+
+after_byte : (before : List ℕ) (at : Place) (b : ℕ) → IsAfter before at → IsAfter (before ++ b ∷ []) (place_after_byte at b)
+after_byte before at b a = by_test (eqb b 10)
+    (λ t. let feed = eqb-true b 10 t in
+    subst (λ b. IsAfter (before ++ b ∷ []) (place_after_byte at b)) (sym feed) (record {
+      start = omega (arith, a.start, length-append before (10 ∷ []));
+      line = omega (arith, a.line, line_after_feed before);
+      column = sym (column_after_feed before);
+    }))
+    (λ f. let on_line : is_line_byte b ≡ true = rw f refl in
+    rw f (record {
+      start = omega (arith, a.start, length-append before (b ∷ []));
+      line = omega (arith, a.line, line_after_byte before b on_line);
+      column = omega (arith, a.column, column_after_byte before b on_line);
+    }))
+
+pub after_bytes : (before : List ℕ) (at : Place) (bs : List ℕ) → IsAfter before at → IsAfter (before ++ bs) (place_after at bs)
+after_bytes before at [] a = subst (λ x. IsAfter x at) (sym (append-nil before)) a
+after_bytes before at (b ∷ bs) a = subst (λ x. IsAfter x (place_after at (b ∷ bs))) (append_assoc before (b ∷ []) bs) (after_bytes (before ++ b ∷ []) (place_after_byte at b) bs (after_byte before at b a))
+
+pub position_is : (before : List ℕ) (at : Place) → IsAfter before at → position_of at ≡ position_after before
+position_is before at a = let l = a.line in let c = a.column in cc
 
 -- the line and the column are no larger than the count of bytes, and one
 pub line_bound : (xs : List ℕ) → line_after xs ≤ length xs + 1

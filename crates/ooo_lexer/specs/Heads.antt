@@ -1,97 +1,177 @@
--- What the code computes of the first piece of a list of bytes. No public clause cites this: `Pieces` says what a piece is.
-use Rattle.std.specs.Prelude.{ℕ, ◌+◌, Bool, true, false, not, ◌&&◌, ◌==◌, nat_le, if◌then◌else◌, List, [], ◌∷◌, Option, Some, None, option_map, codes, drop, length, nat_eq}
-use Rattle.std.specs.List.{list_all, list_any, prefix_len, take_while, starts_with}
-use Rattle.std.specs.Str.{bytes_eq}
-use Rattle.ooo_lexer.specs.declared.bytes.Class.{Class}
+-- What the code computes of the first piece of a list of bytes. No public clause cites this: `Pieces` and `Breaches` say what pieces and breaches are.
+use Rattle.std.specs.Prelude.{ℕ, ◌+◌, Bool, true, false, ◌||◌, ◌&&◌, ◌==◌, nat_eq, if◌then◌else◌, List, [], ◌∷◌, ◌++◌, Option, Some, None, Result, Ok, Err, codes, take, drop, length}
+use Rattle.std.specs.Option.{option_map}
+use Rattle.std.specs.List.{list_any, take_while, starts_with}
 use Rattle.ooo_lexer.specs.declared.bytes.Class.TheVariants as class
-use Rattle.ooo_lexer.specs.declared.token.TokenKind.{TokenKind}
-use Rattle.ooo_lexer.specs.declared.token.TokenKind.TheVariants as kind
+use Rattle.ooo_lexer.specs.declared.error.LexError.{LexError}
+use Rattle.ooo_lexer.specs.declared.error.LexError.TheVariants as error
+use Rattle.ooo_lexer.specs.declared.flaw.Breach.{Breach}
+use Rattle.ooo_lexer.specs.declared.flaw.Breach.TheVariants as breach
+use Rattle.ooo_lexer.specs.declared.flaw.Flaw.{Flaw}
 use Rattle.ooo_lexer.specs.declared.heads.Head.{Head}
+use Rattle.ooo_lexer.specs.declared.heads.PieceKind.{PieceKind}
 use Rattle.ooo_lexer.specs.declared.heads.PieceKind.TheVariants as piece
-use Rattle.ooo_lexer.specs.Bytes.{is_space, is_blank, is_digit, begins_word, is_word_byte, is_text_byte, is_line_byte}
+use Rattle.ooo_lexer.specs.declared.numbers.Number.{Number}
+use Rattle.ooo_lexer.specs.declared.position.Position.{Position}
+use Rattle.ooo_lexer.specs.declared.token.TokenKind.TheVariants as kind
+use Rattle.ooo_lexer.specs.Bytes.{is_space, is_digit, begins_word, is_text_byte, is_escape}
 use Rattle.ooo_lexer.specs.Forms.{headers}
+use Rattle.ooo_lexer.specs.Numerals.{number_of}
+use Rattle.ooo_lexer.specs.Places.{position_after}
+use Rattle.ooo_lexer.specs.Runs.{has, after_run, begins_with, is_nothing}
 
--- the test of a class of bytes
-abbrev pub has : Class → ℕ → Bool
-has class.Word b = is_word_byte b
-has class.Text b = is_text_byte b
-has class.Line b = is_line_byte b
-has class.Blank b = is_blank b
-has class.Solid b = not (is_blank b)
+abbrev pub flaw : Breach → ℕ → Flaw
+flaw b n = record { breach = b; before = n }
 
--- what stands after the first bytes of a class
-abbrev pub after_run : Class → List ℕ → List ℕ
-after_run c bs = drop (prefix_len (has c) bs) bs
+abbrev pub head : PieceKind → ℕ → Head
+head k n = record { kind = k; length = n }
 
--- whether the first byte is this one
-abbrev pub begins_with : ℕ → List ℕ → Bool
-begins_with x [] = false
-begins_with x (b ∷ bs) = b == x
+-- the error of a breach at a place
+abbrev pub error_of : Breach → Position → LexError
+error_of breach.BadByte p = error.BadByte p
+error_of breach.NumberTooWide p = error.NumberTooWide p
+error_of breach.TextNotClosed p = error.TextNotClosed p
+error_of breach.CommentNotClosed p = error.CommentNotClosed p
+error_of breach.Directive p = error.Directive p
+error_of breach.BadNumber p = error.BadNumber p
 
--- whether there is no byte
-abbrev pub is_nothing : List ℕ → Bool
-is_nothing [] = true
-is_nothing (b ∷ bs) = false
+-- the error of a flaw of what stands after these bytes
+abbrev pub error_at : List ℕ → List ℕ → Flaw → LexError
+error_at before rest f = error_of f.breach (position_after (before ++ take f.before rest))
 
--- whether word bytes are a number
-abbrev pub is_number : List ℕ → Bool
-is_number [] = false
-is_number (b ∷ bs) = if b == 48 then is_nothing bs else nat_le (length (b ∷ bs)) 18 && list_all is_digit (b ∷ bs)
+-- ---- numbers
 
--- what word bytes make
-abbrev pub kind_of_run : List ℕ → Option TokenKind
-kind_of_run [] = None
-kind_of_run (b ∷ bs) = if begins_word b then Some kind.Word else (if is_number (b ∷ bs) then Some kind.Number else None)
+-- a number, by the outcome for its word bytes
+abbrev pub head_of_number : ℕ → Result Number Breach → Result Head Flaw
+head_of_number n (Ok number) = Ok (head (piece.Token kind.Number) n)
+head_of_number n (Err b) = Err (flaw b 0)
 
--- a token of a kind and a length
-abbrev pub token_head : TokenKind → ℕ → Head
-token_head k n = record { kind = piece.Token k; length = n }
+-- ---- texts
 
--- a word or a number, by its word bytes
-abbrev pub head_of_run : List ℕ → Option Head
-head_of_run run = option_map (λ k. token_head k (length run)) (kind_of_run run)
+-- whether an escape's letter stands first
+abbrev pub begins_escape : List ℕ → Bool
+begins_escape [] = false
+begins_escape (b ∷ bs) = is_escape b
+
+-- how many bytes the first part of a text takes, or none where the text ends; a stray backslash is a part only where strays are passed
+abbrev pub part_length : Bool → ℕ → List ℕ → ℕ
+part_length strays b bs = if b == 92 then (if begins_escape bs then 2 else (if strays then 1 else 0)) else (if is_text_byte b then 1 else 0)
+
+abbrev pub first_part : Bool → List ℕ → ℕ
+first_part strays [] = 0
+first_part strays (b ∷ bs) = part_length strays b bs
+
+-- how many bytes the parts at the front take
+abbrev pub parts_length : Bool → List ℕ → ℕ
+parts_length strays [] = 0
+parts_length strays (b ∷ []) = part_length strays b []
+parts_length strays (b ∷ c ∷ bs) = if part_length strays b (c ∷ bs) == 2 then 2 + parts_length strays bs
+    else (if part_length strays b (c ∷ bs) == 1 then 1 + parts_length strays (c ∷ bs) else 0)
 
 -- a text, by what follows its opening quote
-abbrev pub text_head : List ℕ → Option Head
-text_head bs = if begins_with 34 (after_run class.Text bs) then Some (token_head kind.Text (length (take_while (has class.Text) bs) + 2)) else None
+abbrev pub text_head : List ℕ → Result Head Flaw
+text_head bs = if begins_with 34 (drop (parts_length true bs) bs)
+    then (if parts_length false bs == parts_length true bs then Ok (head (piece.Token kind.Text) (parts_length true bs + 2)) else Err (flaw breach.BadByte (parts_length false bs + 1)))
+    else Err (flaw breach.TextNotClosed 0)
 
--- whether the bytes are a header's
-abbrev pub is_header : List ℕ → Bool
-is_header bs = list_any (λ h. bytes_eq bs h) headers
+-- ---- directives
 
--- a header, and blanks
-abbrev pub ends_directive : List ℕ → Bool
-ends_directive bs = is_header (take_while (has class.Solid) bs) && is_nothing (after_run class.Blank (after_run class.Solid bs))
+-- how many bytes the first of these headers that stands first takes
+abbrev pub header_length : List (List ℕ) → List ℕ → Option ℕ
+header_length [] bs = None
+header_length (h ∷ hs) bs = if starts_with nat_eq bs h then Some (length h) else header_length hs bs
+
+-- nothing, or a comment to the line's end
+abbrev pub is_note : List ℕ → Bool
+is_note bs = is_nothing bs || starts_with nat_eq bs (codes "//")
+
+-- blanks, and then nothing or a comment to the line's end
+abbrev pub is_end : List ℕ → Bool
+is_end bs = is_note (after_run class.Blank bs)
+
+-- what may follow a header of this length
+abbrev pub ends_header : Option ℕ → List ℕ → Bool
+ends_header None bs = false
+ends_header (Some n) bs = is_end (drop n bs)
+
+-- blanks, a header, and what may follow it
+abbrev pub is_named : List ℕ → Bool
+is_named bs = ends_header (header_length headers (after_run class.Blank bs)) (after_run class.Blank bs)
 
 -- `include`, and what may follow it
 abbrev pub is_include : List ℕ → Bool
-is_include bs = starts_with nat_eq bs (codes "include") && ends_directive (after_run class.Blank (drop 7 bs))
+is_include bs = starts_with nat_eq bs (codes "include") && is_named (drop 7 bs)
 
 -- a directive, by what follows its `#`
-abbrev pub directive_head : List ℕ → Option Head
-directive_head bs = if is_include (after_run class.Blank (take_while (has class.Line) bs)) then Some (record { kind = piece.Directive; length = length (take_while (has class.Line) bs) + 1 }) else None
+abbrev pub directive_head : List ℕ → Result Head Flaw
+directive_head bs = if is_include (after_run class.Blank (take_while (has class.Line) bs)) then Ok (head piece.Directive (length (take_while (has class.Line) bs) + 1)) else Err (flaw breach.Directive 0)
+
+-- ---- comments
+
+-- how many bytes stand before the first `*/`
+abbrev pub close_at : List ℕ → Option ℕ
+close_at [] = None
+close_at (b ∷ bs) = if b == 42 && begins_with 47 bs then Some 0 else option_map (λ n. n + 1) (close_at bs)
+
+-- a comment that `/*` begins, by where its `*/` stands after that
+abbrev pub block_head : Option ℕ → Result Head Flaw
+block_head None = Err (flaw breach.CommentNotClosed 0)
+block_head (Some n) = Ok (head piece.Comment (n + 4))
+
+-- ---- signs
+
+abbrev pub begins_triple : List ℕ → Bool
+begins_triple bs = starts_with nat_eq bs (codes "<<=") || starts_with nat_eq bs (codes ">>=")
+
+-- what `=` may follow in a sign of two bytes
+abbrev pub takes_equals : ℕ → Bool
+takes_equals b = list_any (λ c. b == c) (codes "<>=!+-*/%&|^")
+
+-- what may stand twice in a sign of two bytes
+abbrev pub may_be_doubled : ℕ → Bool
+may_be_doubled b = list_any (λ c. b == c) (codes "<>&|+-:")
+
+abbrev pub is_pair : ℕ → ℕ → Bool
+is_pair a b = (b == 61 && takes_equals a) || (a == b && may_be_doubled a)
+
+abbrev pub begins_pair : ℕ → List ℕ → Bool
+begins_pair a [] = false
+begins_pair a (b ∷ bs) = is_pair a b
+
+-- the other signs of one byte
+abbrev pub stands_alone : ℕ → Bool
+stands_alone b = list_any (λ c. b == c) (codes "~?:;,.(){}[]")
 
 -- the signs of one byte
-abbrev pub lone_signs : List ℕ
-lone_signs = codes "(){}[];,*"
-
--- whether a byte is a sign
 abbrev pub is_lone_sign : ℕ → Bool
-is_lone_sign b = list_any (λ c. b == c) lone_signs
+is_lone_sign b = takes_equals b || stands_alone b
+
+abbrev pub sign : ℕ → Result Head Flaw
+sign n = Ok (head (piece.Token kind.Sign) n)
 
 -- a sign, by its first byte and what follows
-abbrev pub sign_head : ℕ → List ℕ → Option Head
-sign_head b bs = if is_lone_sign b then Some (token_head kind.Sign 1) else (if b == 60 && begins_with 60 bs then Some (token_head kind.Sign 2) else None)
+abbrev pub sign_head : ℕ → List ℕ → Result Head Flaw
+sign_head b bs = if begins_triple (b ∷ bs) then sign 3 else (if begins_pair b bs then sign 2 else (if is_lone_sign b then sign 1 else Err (flaw breach.BadByte 0)))
+
+-- ---- the first piece
+
+-- a comment or a sign, by its first byte and what follows
+abbrev pub mark_head : ℕ → List ℕ → Result Head Flaw
+mark_head b bs = if b == 47 && begins_with 47 bs then Ok (head piece.Comment (length (take_while (has class.Line) bs) + 1))
+    else (if b == 47 && begins_with 42 bs then block_head (close_at (drop 1 bs)) else sign_head b bs)
+
+-- a text, a directive, a comment or a sign, by its first byte and what follows
+abbrev pub marked_head : ℕ → List ℕ → Result Head Flaw
+marked_head b bs = if b == 34 then text_head bs else (if b == 35 then directive_head bs else mark_head b bs)
 
 -- what the first byte begins
-unfoldable pub head_at : ℕ → List ℕ → Option Head
-head_at b bs = if is_space b then Some (record { kind = piece.Space; length = 1 })
-    else (if is_word_byte b then head_of_run (take_while (has class.Word) (b ∷ bs))
-    else (if b == 34 then text_head bs
-    else (if b == 35 then directive_head bs
-    else sign_head b bs)))
+unfoldable pub head_at : ℕ → List ℕ → Result Head Flaw
+head_at b bs = if is_space b then Ok (head piece.Space 1)
+    else (if begins_word b then Ok (head (piece.Token kind.Word) (length (take_while (has class.Word) (b ∷ bs))))
+    else (if is_digit b then head_of_number (length (take_while (has class.Word) (b ∷ bs))) (number_of (take_while (has class.Word) (b ∷ bs)))
+    else marked_head b bs))
 
--- the first piece
-unfoldable pub head_of : List ℕ → Option Head
-head_of [] = None
+-- the first piece; there is none where no byte is
+unfoldable pub head_of : List ℕ → Result Head Flaw
+head_of [] = Err (flaw breach.BadByte 0)
 head_of (b ∷ bs) = head_at b bs

@@ -1,7 +1,11 @@
 -- What holds of every source.
-use Rattle.std.specs.Prelude.{◌≡◌, ℕ, List, All, map}
+use Rattle.std.specs.Prelude.{◌≡◌, ℕ, ◌⊎◌, List, All, map}
+use Rattle.ooo_lexer.specs.declared.error.LexError.{LexError}
+use Rattle.ooo_lexer.specs.declared.numbers.Number.{Number}
 use Rattle.ooo_lexer.specs.declared.token.Token.{Token}
+use Rattle.ooo_lexer.specs.Numbers.{IsNumberOf}
 use Rattle.ooo_lexer.specs.Pieces.{Piece, Cuts, lexemes}
+use Rattle.ooo_lexer.specs.Breaches.{HasBreach}
 use Rattle.ooo_lexer.specs.Spans.{AreTokensOf, IsWithin, AreInOrder, lexeme_at}
 
 -- two cuttings of one source are the same
@@ -11,6 +15,22 @@ IsCutOneWay = (source : List ℕ) (pieces others : List Piece) → Cuts source p
 -- a source has one list of tokens at most
 abbrev pub HasOneTokenList : Type 0
 HasOneTokenList = (source : List ℕ) (tokens others : List Token) → AreTokensOf source tokens → AreTokensOf source others → tokens ≡ others
+
+-- a source has one breach at most
+abbrev pub HasOneBreach : Type 0
+HasOneBreach = (source : List ℕ) (e f : LexError) → HasBreach source e → HasBreach source f → e ≡ f
+
+-- no source with a breach is cut
+abbrev pub HasNoCutting : Type 0
+HasNoCutting = (source : List ℕ) (e : LexError) (pieces : List Piece) → HasBreach source e → Cuts source pieces → ⊥
+
+-- a source is cut, or it has a breach
+abbrev pub IsCutOrBroken : Type 0
+IsCutOrBroken = (source : List ℕ) → ((pieces : List Piece) × Cuts source pieces) ⊎ ((e : LexError) × HasBreach source e)
+
+-- a number has one kind and one value
+abbrev pub IsOneNumber : Type 0
+IsOneNumber = (bs : List ℕ) (n o : Number) → IsNumberOf bs n → IsNumberOf bs o → n ≡ o
 
 -- the spans of a source's tokens lie within it
 abbrev pub SpansAreWithin : Type 0

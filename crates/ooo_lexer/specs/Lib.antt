@@ -1,8 +1,13 @@
 pub mod Bytes
+pub mod Texts
+pub mod Numbers
 pub mod Forms
 pub mod Pieces
 pub mod Places
+pub mod Breaches
 pub mod Spans
+pub mod Runs
+pub mod Numerals
 pub mod Heads
 pub mod Laws
 pub mod Steps

@@ -1,24 +1,28 @@
 -- The cutting of a source into pieces by the longest fit, as a relation on the whole source (ISO/IEC 14882, [lex.pptoken]).
-use Rattle.std.specs.Prelude.{◌≡◌, ℕ, ◌≤◌, Bool, false, List, [], ◌∷◌, ◌++◌, IsTrue, length}
+use Rattle.std.specs.Prelude.{◌≡◌, ℕ, ◌≤◌, Bool, false, List, [], ◌∷◌, ◌++◌, ◌⊎◌, IsTrue, Contains, length}
 use Rattle.ooo_lexer.specs.declared.token.TokenKind.{TokenKind}
 use Rattle.ooo_lexer.specs.declared.token.TokenKind.TheVariants as kind
 use Rattle.ooo_lexer.specs.Bytes.{is_space, is_word_byte, is_line_byte}
-use Rattle.ooo_lexer.specs.Forms.{IsWord, IsNumber, IsText, IsSign, IsDirective}
+use Rattle.ooo_lexer.specs.Forms.{IsWord, IsSign, signs, comment_marks, IsLineComment, IsBlockComment, IsDirective}
+use Rattle.ooo_lexer.specs.Numbers.{IsNumber}
+use Rattle.ooo_lexer.specs.Texts.{IsText}
 
 -- a token as a grammar sees it: its kind and how it is written ([lex.token])
 pub record Lexeme : Type 0 where
   pub kind : TokenKind
   pub bytes : List ℕ
 
--- a space, a directive or a lexeme, of which the first two are skipped
+-- a space, a comment, a directive or a lexeme, of which the first three are skipped
 pub data Piece : Type 0 where
   Space : (byte : ℕ) → Piece
+  Comment : (bytes : List ℕ) → Piece
   Directive : (bytes : List ℕ) → Piece
   Kept : (lexeme : Lexeme) → Piece
 
 -- how a piece is written
 abbrev pub bytes_of : Piece → List ℕ
 bytes_of (Space b) = b ∷ []
+bytes_of (Comment bs) = bs
 bytes_of (Directive bs) = bs
 bytes_of (Kept l) = l.bytes
 
@@ -34,9 +38,9 @@ abbrev pub StopsBefore : (ℕ → Bool) → List ℕ → Type 0
 StopsBefore test [] = Unit {0}
 StopsBefore test (b ∷ bs) = test b ≡ false
 
--- no longer sign stands where this one does
+-- nothing longer stands where this sign does: no longer sign, and nothing that begins a comment
 abbrev pub IsLongestSign : List ℕ → List ℕ → Type 0
-IsLongestSign bs rest = (longer after : List ℕ) → IsSign longer → bs ++ rest ≡ longer ++ after → length longer ≤ length bs
+IsLongestSign bs rest = (longer after : List ℕ) → Contains (comment_marks ++ signs) longer → bs ++ rest ≡ longer ++ after → length longer ≤ length bs
 
 -- the longest fit: a word and a number take all letters, digits and `_` that follow, a sign is the longest that fits, and a text ends with its quote
 abbrev pub IsLongest : TokenKind → List ℕ → List ℕ → Type 0
@@ -45,9 +49,10 @@ IsLongest kind.Number bs rest = StopsBefore is_word_byte rest
 IsLongest kind.Text bs rest = Unit {0}
 IsLongest kind.Sign bs rest = IsLongestSign bs rest
 
--- a piece that may stand before the rest of a source: a directive takes the rest of its line
+-- a piece that may stand before the rest of a source: a comment that `//` begins and a directive take the rest of their line
 abbrev pub StandsBefore : Piece → List ℕ → Type 0
 StandsBefore (Space b) rest = IsTrue (is_space b)
+StandsBefore (Comment bs) rest = (IsLineComment bs × StopsBefore is_line_byte rest) ⊎ IsBlockComment bs
 StandsBefore (Directive bs) rest = IsDirective bs × StopsBefore is_line_byte rest
 StandsBefore (Kept l) rest = IsOfKind l.kind l.bytes × IsLongest l.kind l.bytes rest
 
@@ -56,19 +61,20 @@ abbrev pub joined : List Piece → List ℕ
 joined [] = []
 joined (p ∷ ps) = bytes_of p ++ joined ps
 
--- each piece may stand before those that follow it
-abbrev pub EachStands : List Piece → Type 0
-EachStands [] = Unit {0}
-EachStands (p ∷ ps) = StandsBefore p (joined ps) × EachStands ps
+-- each piece may stand before those that follow it and the rest
+abbrev pub EachStands : List Piece → List ℕ → Type 0
+EachStands [] rest = Unit {0}
+EachStands (p ∷ ps) rest = StandsBefore p (joined ps ++ rest) × EachStands ps rest
 
 -- the source is cut into these pieces
 pub record Cuts (source : List ℕ) (pieces : List Piece) : Type 0 where
   pub whole : joined pieces ≡ source
-  pub fits : EachStands pieces
+  pub fits : EachStands pieces []
 
 -- the lexemes among the pieces, in order
 abbrev pub lexemes : List Piece → List Lexeme
 lexemes [] = []
 lexemes (Space b ∷ ps) = lexemes ps
+lexemes (Comment bs ∷ ps) = lexemes ps
 lexemes (Directive bs ∷ ps) = lexemes ps
 lexemes (Kept l ∷ ps) = l ∷ lexemes ps

@@ -1,8 +1,9 @@
 -- Where a token stands, by the bytes before it.
 use Rattle.std.specs.Prelude.{ℕ, ◌+◌, ◌==◌, List, [], ◌∷◌, ◌++◌, count_by, length}
 use Rattle.std.specs.List.{after_last}
+use Rattle.ooo_lexer.specs.declared.position.Position.{Position}
 use Rattle.ooo_lexer.specs.declared.token.Token.{Token}
-use Rattle.ooo_lexer.specs.Pieces.{Lexeme, Piece, Space, Directive, Kept}
+use Rattle.ooo_lexer.specs.Pieces.{Lexeme, Piece, Space, Comment, Directive, Kept}
 
 -- the line after these bytes, from 1: one more than their line feeds
 abbrev pub line_after : List ℕ → ℕ
@@ -11,6 +12,9 @@ line_after before = count_by (λ b. b == 10) before + 1
 -- the column after these bytes, in bytes from 1: one more than the bytes after their last line feed
 abbrev pub column_after : List ℕ → ℕ
 column_after before = length (after_last (λ b. b == 10) before) + 1
+
+abbrev pub position_after : List ℕ → Position
+position_after before = record { line = line_after before; column = column_after before }
 
 -- the token of a lexeme that stands after these bytes
 abbrev pub token_after : List ℕ → Lexeme → Token
@@ -22,9 +26,10 @@ token_after before l = record {
   column = column_after before;
 }
 
--- the tokens of pieces that stand after these bytes: spaces and directives give none
+-- the tokens of pieces that stand after these bytes: spaces, comments and directives give none
 abbrev pub placed : List ℕ → List Piece → List Token
 placed before [] = []
 placed before (Space b ∷ ps) = placed (before ++ b ∷ []) ps
+placed before (Comment bs ∷ ps) = placed (before ++ bs) ps
 placed before (Directive bs ∷ ps) = placed (before ++ bs) ps
 placed before (Kept l ∷ ps) = token_after before l ∷ placed (before ++ l.bytes) ps

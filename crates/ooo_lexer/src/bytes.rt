@@ -1,7 +1,7 @@
 ghost use Rattle.std.specs.Prelude.{◌≡◌, ◌≤◌, length, drop};
 ghost use Rattle.std.specs.List.{prefix_len, take_while};
-ghost use Rattle.ooo_lexer.specs.Bytes.{is_space, is_blank, is_digit, begins_word, is_word_byte, is_text_byte};
-ghost use Rattle.ooo_lexer.specs.Heads.{has, after_run};
+ghost use Rattle.ooo_lexer.specs.Bytes.{is_space, is_blank, is_digit, begins_word, is_word_byte, is_hex_digit};
+ghost use Rattle.ooo_lexer.specs.Runs.{has, after_run};
 
 /// A tab, a line feed, a carriage return or a blank.
 pub(crate) fn is_space(byte: u8) -> bool
@@ -30,16 +30,16 @@ pub(crate) fn begins_word(byte: u8) -> bool
 }
 
 /// A letter, a digit or `_`.
-pub(crate) fn is_word_byte(byte: u8) -> bool
+fn is_word_byte(byte: u8) -> bool
     ensures { result ≡ is_word_byte byte }
 {
     begins_word(byte) || is_digit(byte)
 }
 
-fn is_text_byte(byte: u8) -> bool
-    ensures { result ≡ is_text_byte byte }
+fn is_hex_digit(byte: u8) -> bool
+    ensures { result ≡ is_hex_digit byte }
 {
-    !(byte == b'\n' || byte == b'\r' || byte == b'"' || byte == b'\\')
+    byte.is_ascii_hexdigit()
 }
 
 /// A class of bytes that stand in a row.
@@ -47,14 +47,14 @@ fn is_text_byte(byte: u8) -> bool
 pub(crate) enum Class {
     /// What a word or a number takes.
     Word,
-    /// What may stand between a text's quotes.
-    Text,
+    /// What a decimal number is made of.
+    Digit,
+    /// What a hexadecimal number is made of.
+    HexDigit,
     /// What stands on a line.
     Line,
     /// What may stand between the parts of a directive.
     Blank,
-    /// Any byte but those.
-    Solid,
 }
 
 impl Class {
@@ -63,10 +63,10 @@ impl Class {
     {
         match self {
             Class::Word => is_word_byte(byte),
-            Class::Text => is_text_byte(byte),
+            Class::Digit => is_digit(byte),
+            Class::HexDigit => is_hex_digit(byte),
             Class::Line => byte != b'\n',
             Class::Blank => is_blank(byte),
-            Class::Solid => !is_blank(byte),
         }
     }
 

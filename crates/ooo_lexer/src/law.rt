@@ -1,11 +1,23 @@
 //! What holds of every source: functions that do nothing, whose clauses are laws of the definitions.
 
-ghost use Rattle.ooo_lexer.specs.Laws.{IsCutOneWay, HasOneTokenList, SpansAreWithin, SpansAreInOrder, SpansAreLexemes};
+ghost use Rattle.ooo_lexer.specs.Laws.{IsCutOneWay, HasOneTokenList, HasOneBreach, HasNoCutting, IsCutOrBroken, IsOneNumber, SpansAreWithin, SpansAreInOrder, SpansAreLexemes};
 
 /// A source is cut into pieces in one way at most, and so has one list of tokens at most (ISO/IEC 14882, [lex.pptoken]).
 pub fn one_cutting()
     ensures pieces { IsCutOneWay }
     ensures tokens { HasOneTokenList }
+{}
+
+/// A source is cut or has a breach, not both, and has one breach at most: nothing is left undecided.
+pub fn one_breach()
+    ensures breach { HasOneBreach }
+    ensures uncut { HasNoCutting }
+    ensures either { IsCutOrBroken }
+{}
+
+/// The bytes of a number are one number at most: they have one value and one kind (ISO/IEC 14882, [lex.icon]).
+pub fn one_number()
+    ensures { IsOneNumber }
 {}
 
 /// The spans of a source's tokens: where they lie, and that their bytes are the lexemes.

@@ -1,7 +1,7 @@
-ghost use Rattle.std.specs.Prelude.{◌≡◌, ◌+◌, ◌<◌, ◌^◌};
-ghost use Rattle.ooo_lexer.specs.Steps.{place_after};
+ghost use Rattle.std.specs.Prelude.{◌≡◌, ◌+◌, ◌<◌, ◌^◌, length};
+ghost use Rattle.ooo_lexer.specs.Steps.{place_after_byte, place_after, position_of};
 
-use crate::heads::Head;
+use crate::position::Position;
 
 /// A place in a source.
 #[derive(Clone, Copy)]
@@ -15,16 +15,44 @@ pub(crate) struct Place {
 }
 
 impl Place {
-    /// The place after a piece that begins with `first`. A line feed is a piece by itself.
-    pub(crate) fn after(self, first: u8, head: Head) -> Place
-        requires start_fits { self.start + head.length < 2 ^ 32 }
-        requires line_fits { self.line + 1 < 2 ^ 32 }
-        requires column_fits { self.column + head.length < 2 ^ 32 }
-        ensures { result ≡ place_after self first head }
+    /// The first place of a source.
+    pub(crate) const FIRST: Place = Place {
+        start: 0,
+        line: 1,
+        column: 1,
+    };
+
+    pub(crate) fn position(self) -> Position
+        ensures { result ≡ position_of self }
     {
-        let length = head.length as u32;
-        let start = self.start + length;
-        if first == b'\n' {
+        Position {
+            line: self.line,
+            column: self.column,
+        }
+    }
+
+    /// The place after these bytes.
+    pub(crate) fn after(self, bytes: &[u8]) -> Place
+        requires start_fits { self.start + length bytes.now < 2 ^ 32 }
+        requires line_fits { self.line + length bytes.now < 2 ^ 32 }
+        requires column_fits { self.column + length bytes.now < 2 ^ 32 }
+        ensures { result ≡ place_after self bytes.now }
+    {
+        let mut place = self;
+        for byte in bytes {
+            place = place.after_byte(*byte);
+        }
+        place
+    }
+
+    fn after_byte(self, byte: u8) -> Place
+        requires start_fits { self.start + 1 < 2 ^ 32 }
+        requires line_fits { self.line + 1 < 2 ^ 32 }
+        requires column_fits { self.column + 1 < 2 ^ 32 }
+        ensures { result ≡ place_after_byte self byte }
+    {
+        let start = self.start + 1;
+        if byte == b'\n' {
             Place {
                 start,
                 line: self.line + 1,
@@ -34,7 +62,7 @@ impl Place {
             Place {
                 start,
                 line: self.line,
-                column: self.column + length,
+                column: self.column + 1,
             }
         }
     }

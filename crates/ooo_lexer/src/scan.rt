@@ -1,10 +1,14 @@
-ghost use Rattle.std.specs.Prelude.{◌≡◌, ◌≤◌, ◌<◌, ◌+◌, ◌++◌, ◌^◌, List, [], All, map, length, OnOk, IfOk, IsErrOf};
+ghost use Rattle.std.specs.Prelude.{◌≡◌, ◌≢◌, ◌≤◌, ◌<◌, ◌+◌, ◌++◌, ◌^◌, List, [], All, map, take, length, OnOk, IfOk, IfErr};
 ghost use Rattle.ooo_lexer.specs.Pieces.{Piece, Cuts, lexemes};
 ghost use Rattle.ooo_lexer.specs.Places.{placed};
 ghost use Rattle.ooo_lexer.specs.Spans.{AreTokensOf, IsWithin, AreInOrder, lexeme_at};
-ghost use Rattle.ooo_lexer.specs.Steps.{tokens_of};
+ghost use Rattle.ooo_lexer.specs.Breaches.{HasBreach};
+ghost use Rattle.ooo_lexer.specs.declared.error.LexError.{LexError as Error};
+ghost use Rattle.ooo_lexer.specs.Heads.{error_of};
+ghost use Rattle.ooo_lexer.specs.Steps.{tokens_of, place_after, position_of};
 
 use crate::error::LexError;
+use crate::flaw::Flaw;
 use crate::heads::{Head, PieceKind, head_of};
 use crate::place::Place;
 use crate::token::Token;
@@ -27,13 +31,14 @@ fn keep(tokens: &mut Vec<Token>, head: Head, place: Place) -> Result<(), AllocEr
     Ok(())
 }
 
-/// Cuts a source of at most 2^20 bytes into tokens by the longest fit, and skips spaces and directives
-/// (ISO/IEC 14882, [lex.pptoken] and [cpp.include]).
+/// Cuts a source of at most 2^20 bytes into tokens by the longest fit, and skips spaces, comments and directives
+/// (ISO/IEC 14882, [lex.pptoken], [lex.comment] and [cpp.include]).
+///
+/// It takes memory for the tokens alone, and its time is in proportion to the source; no clause says so.
 ///
 /// # Errors
 ///
-/// `NotBuilt` where the source is not made of spaces, directives and tokens as they are built so far, and
-/// `OutOfMemory` where memory ran out, whatever the source.
+/// The leftmost breach of the source, with its place, or `OutOfMemory` where memory ran out, whatever the source.
 pub fn lex(alloc: Global, source: &[u8]) -> Result<Vec<Token>, LexError>
     requires { length source.now ≤ 1048576 }
 
@@ -47,24 +52,37 @@ pub fn lex(alloc: Global, source: &[u8]) -> Result<Vec<Token>, LexError>
     ensures lexemes { IfOk result (λ v. (pieces : List Piece) → Cuts source.now pieces
         → map (lexeme_at source.now) v.items ≡ lexemes pieces) }
 
-    // A source that is refused can't be cut. One that is not refused can be, by `tokens`, unless memory ran out.
-    ensures not_built { IsErrOf result LexError.NotBuilt → (pieces : List Piece) → ¬ Cuts source.now pieces }
+    // A source that is refused has this breach at this place, no other breach, and no cutting. One that is not refused
+    // has no breach.
+    ensures breach { IfErr result (λ e. e ≢ LexError.OutOfMemory → HasBreach source.now e) }
+    ensures one { IfErr result (λ e. e ≢ LexError.OutOfMemory → (other : Error) → HasBreach source.now other → other ≡ e) }
+    ensures uncut { IfErr result (λ e. e ≢ LexError.OutOfMemory → (pieces : List Piece) → ¬ Cuts source.now pieces) }
+    ensures unbroken { IfOk result (λ _. (e : Error) → ¬ HasBreach source.now e) }
 {
     let mut tokens = Vec::new(alloc);
-    let mut place = Place {
-        start: 0,
-        line: 1,
-        column: 1,
-    };
+    let mut place = Place::FIRST;
     let mut rest = source;
-    'pieces: while let [first, ..] = rest {
-        let Some(head) = head_of(rest) else {
-            return Err(LexError::NotBuilt);
+    'pieces: while !rest.is_empty() {
+        let head = match head_of(rest) {
+            Ok(head) => head,
+            Err(flaw) => return Err(flaw_error(place, rest, flaw)),
         };
         keep(&mut tokens, head, place)?;
-        place = place.after(*first, head);
-        let (_, after) = rest.split_at(head.length);
+        let (piece, after) = rest.split_at(head.length);
+        place = place.after(piece);
         rest = after;
     }
     Ok(tokens)
+}
+
+// The error of a flaw of what stands at a place.
+fn flaw_error(place: Place, rest: &[u8], flaw: Flaw) -> LexError
+    requires within { flaw.before ≤ length rest.now }
+    requires start_fits { place.start + length rest.now < 2 ^ 32 }
+    requires line_fits { place.line + length rest.now < 2 ^ 32 }
+    requires column_fits { place.column + length rest.now < 2 ^ 32 }
+    ensures { result ≡ error_of flaw.breach (position_of (place_after place (take flaw.before rest.now))) }
+{
+    let (before, _) = rest.split_at(flaw.before);
+    flaw.breach.at(place.after(before).position())
 }

@@ -1,13 +1,25 @@
-use crate::{LexError, Token, TokenKind, lex};
+//! Sources and their tokens, by hand; places; and the calls on single tokens.
+
+mod table;
+
+use crate::{LexError, Number, NumberKind, Position, Token, TokenKind, lex, read_number, unescape};
 use std::alloc::{AllocError, Global};
 use std::process::Abort;
 use std::test::Fail;
 
-/// A source, and its tokens one after another as [`show`] writes them: none where it is refused.
-type Case = (&'static [u8], Option<&'static [u8]>);
+/// A source, and what `lex` gives as [`shown`] writes it.
+pub type Case = (&'static [u8], &'static [u8]);
 
-// Writes each token as the letter of its kind, a colon, its bytes and a bar.
-fn show(
+// Writes each token as the letter of its kind, a colon, its bytes and a bar; or the error's name and its place.
+fn shown(rt: &impl Abort, alloc: Global, source: &[u8]) -> Result<Vec<u8>, AllocError> {
+    assert!(rt; source.len() <= 1_048_576);
+    match lex(alloc, source) {
+        Ok(tokens) => show_tokens(rt, alloc, source, &tokens),
+        Err(error) => show_error(alloc, error),
+    }
+}
+
+fn show_tokens(
     rt: &impl Abort,
     alloc: Global,
     source: &[u8],
@@ -30,151 +42,135 @@ fn show(
     Ok(text)
 }
 
-fn check(rt: &impl Abort, alloc: Global, case: Case) -> Result<(), AllocError> {
-    let (source, tokens) = case;
-    assert!(rt; source.len() <= 1_048_576);
-    match (lex(alloc, source), tokens) {
-        (Ok(found), Some(wanted)) => {
-            let shown = show(rt, alloc, source, &found)?;
-            assert!(rt; shown.as_slice() == wanted);
-        }
-        (Err(error), None) => assert!(rt; error == LexError::NotBuilt),
-        _ => assert!(rt; false),
+fn show_error(alloc: Global, error: LexError) -> Result<Vec<u8>, AllocError> {
+    let (name, place) = match error {
+        LexError::BadByte(place) => ("BadByte", place),
+        LexError::NumberTooWide(place) => ("NumberTooWide", place),
+        LexError::TextNotClosed(place) => ("TextNotClosed", place),
+        LexError::CommentNotClosed(place) => ("CommentNotClosed", place),
+        LexError::Directive(place) => ("Directive", place),
+        LexError::BadNumber(place) => ("BadNumber", place),
+        LexError::OutOfMemory => return Err(AllocError),
+    };
+    let line = place.line;
+    let column = place.column;
+    let text = format!(in alloc; "{name} {line}:{column}")?;
+    Vec::from_slice(alloc, text.as_bytes())
+}
+
+fn check(rt: &impl Abort, alloc: Global, cases: &[Case]) -> Result<(), AllocError> {
+    for (number, (source, wanted)) in cases.iter().enumerate() {
+        let found = shown(rt, alloc, source)?;
+        assert!(rt; found.as_slice() == *wanted, "case {number}");
     }
     Ok(())
 }
 
 #[test]
-fn cuts_tokens(rt: HostRuntime) -> Result<(), Fail> {
-    let cases: [Case; 15] = [
-        (b"", Some(b"")),
-        (b" \t\r\n ", Some(b"")),
-        (
-            b"<<(){}[];,*",
-            Some(b"s:<<|s:(|s:)|s:{|s:}|s:[|s:]|s:;|s:,|s:*|"),
-        ),
-        (b"<<<<", Some(b"s:<<|s:<<|")),
-        (b"<<<", None),
-        (b"<", None),
-        (b"a_1 _B2c(Z9)", Some(b"w:a_1|w:_B2c|s:(|w:Z9|s:)|")),
-        (b"0 10 7", Some(b"n:0|n:10|n:7|")),
-        (b"a1(1)", Some(b"w:a1|s:(|n:1|s:)|")),
-        (b"00", None),
-        (b"01", None),
-        (b"1a", None),
-        (b"0x1", None),
-        (b"123456789012345678", Some(b"n:123456789012345678|")),
-        (b"1234567890123456789", None),
-    ];
-    for case in cases {
-        check(&rt, rt.alloc(), case)?;
-    }
+fn cuts_at_spaces(rt: HostRuntime) -> Result<(), Fail> {
+    check(&rt, rt.alloc(), &table::SPACES)?;
     Ok(())
 }
 
 #[test]
-fn cuts_texts(rt: HostRuntime) -> Result<(), Fail> {
-    let cases: [Case; 13] = [
-        (b"\"\"", Some(b"t:\"\"|")),
-        (b"\"a b\"\"c\"", Some(b"t:\"a b\"|t:\"c\"|")),
-        (b"\"\xc8\0\x0b\"", Some(b"t:\"\xc8\0\x0b\"|")),
-        (b"\"a # b\"", Some(b"t:\"a # b\"|")),
-        (b"\"a", None),
-        (b"\"a\n\"", None),
-        (b"\"a\r\"", None),
-        (b"\"a\\n\"", None),
-        (b"a\x0bb", None),
-        (b"\0", None),
-        (b"\xc8", None),
-        (b"a = b", None),
-        (b"// a", None),
-    ];
-    for case in cases {
-        check(&rt, rt.alloc(), case)?;
-    }
+fn takes_the_longest_sign(rt: HostRuntime) -> Result<(), Fail> {
+    check(&rt, rt.alloc(), &table::SIGNS)?;
+    Ok(())
+}
+
+#[test]
+fn tells_numbers(rt: HostRuntime) -> Result<(), Fail> {
+    check(&rt, rt.alloc(), &table::NUMBERS)?;
+    Ok(())
+}
+
+#[test]
+fn tells_texts(rt: HostRuntime) -> Result<(), Fail> {
+    check(&rt, rt.alloc(), &table::TEXTS)?;
+    Ok(())
+}
+
+#[test]
+fn skips_comments(rt: HostRuntime) -> Result<(), Fail> {
+    check(&rt, rt.alloc(), &table::COMMENTS)?;
     Ok(())
 }
 
 #[test]
 fn skips_directives(rt: HostRuntime) -> Result<(), Fail> {
-    let cases: [Case; 16] = [
-        (b"#include <systemc>", Some(b"")),
-        (b"#include<iostream>\nx", Some(b"w:x|")),
-        (b"#\t include \r\t\"systemc.h\" \t\r\nx", Some(b"w:x|")),
-        (b"#include \"systemc\"", Some(b"")),
-        (b"#include <systemc.h>", Some(b"")),
-        (b"a ; #include <systemc>\nb", Some(b"w:a|s:;|w:b|")),
-        (b"#include <systemc> x", None),
-        (b"#include <systemc>;", None),
-        (b"#include <systemc> // x", None),
-        (b"#include \"iostream\"", None),
-        (b"#include <systemc >", None),
-        (b"#include\n<systemc>", None),
-        (b"#includes <systemc>", None),
-        (b"#include", None),
-        (b"#define A", None),
-        (b"#", None),
-    ];
-    for case in cases {
-        check(&rt, rt.alloc(), case)?;
-    }
+    check(&rt, rt.alloc(), &table::DIRECTIVES)?;
     Ok(())
+}
+
+fn token(kind: TokenKind, start: u32, end: u32, line: u32, column: u32) -> Token {
+    Token {
+        kind,
+        start,
+        end,
+        line,
+        column,
+    }
 }
 
 #[test]
 fn places_tokens(rt: HostRuntime) -> Result<(), Fail> {
-    let tokens = lex(rt.alloc(), b"a\n\t bc \"d\"#include <systemc>\r\n\n<<")
-        .ok()
-        .ok_or("not cut")?;
+    let source = b"a\n\t bc \"d\"#include <systemc>\r\n\n<</*\n\n*/x";
+    let tokens = lex(rt.alloc(), source).ok().ok_or("not cut")?;
     let wanted = [
-        Token {
-            kind: TokenKind::Word,
-            start: 0,
-            end: 1,
-            line: 1,
-            column: 1,
-        },
-        Token {
-            kind: TokenKind::Word,
-            start: 4,
-            end: 6,
-            line: 2,
-            column: 3,
-        },
-        Token {
-            kind: TokenKind::Text,
-            start: 7,
-            end: 10,
-            line: 2,
-            column: 6,
-        },
-        Token {
-            kind: TokenKind::Sign,
-            start: 31,
-            end: 33,
-            line: 4,
-            column: 1,
-        },
+        token(TokenKind::Word, 0, 1, 1, 1),
+        token(TokenKind::Word, 4, 6, 2, 3),
+        token(TokenKind::Text, 7, 10, 2, 6),
+        token(TokenKind::Sign, 31, 33, 4, 1),
+        token(TokenKind::Word, 39, 40, 6, 3),
     ];
     assert!(rt; tokens.as_slice() == wanted.as_slice());
     Ok(())
 }
 
 #[test]
-fn cuts_a_model(rt: HostRuntime) -> Result<(), Fail> {
-    let model = b"#include <systemc.h>
-SC_MODULE(M) {
-  void a() { cout << \"a\" << endl; wait(10, SC_NS); cout << sc_time_stamp() << endl; }
-  void b() { cout << \"b\" << endl; }
-  SC_CTOR(M) { SC_THREAD(a); SC_THREAD(b); }
-};
-int sc_main(int argc, char* argv[]) {
-  M m(\"m\");
-  sc_start(100, SC_NS);
-  return 0;
+fn reads_numbers(rt: HostRuntime) {
+    let cases: [(&[u8], NumberKind, u64); 12] = [
+        (b"0", NumberKind::Int, 0),
+        (b"2147483647", NumberKind::Int, 2_147_483_647),
+        (b"2147483648", NumberKind::Long, 2_147_483_648),
+        (b"0x7fffffff", NumberKind::Int, 2_147_483_647),
+        (b"0x80000000", NumberKind::Uint, 2_147_483_648),
+        (b"0X1FFFFFFFF", NumberKind::Long, 8_589_934_591),
+        (
+            b"0x8000000000000000",
+            NumberKind::Ulong,
+            9_223_372_036_854_775_808,
+        ),
+        (b"4294967295u", NumberKind::Uint, 4_294_967_295),
+        (b"4294967296U", NumberKind::Ulong, 4_294_967_296),
+        (b"7ll", NumberKind::Long, 7),
+        (b"0xALL", NumberKind::Long, 10),
+        (b"1ull", NumberKind::Ulong, 1),
+    ];
+    for (bytes, kind, value) in cases {
+        assert!(rt; read_number(bytes) == Some(Number { kind, value }));
+    }
+    assert!(rt; read_number(b"1lu").is_none());
+    assert!(rt; read_number(b"18446744073709551616").is_none());
 }
-";
-    let tokens = lex(rt.alloc(), model).ok().ok_or("not cut")?;
-    assert_eq!(rt; tokens.len(), 92);
+
+#[test]
+fn undoes_escapes(rt: HostRuntime) -> Result<(), Fail> {
+    let mut text = Vec::from_slice(rt.alloc(), b"> ")?;
+    unescape(&mut text, b"a\\n\\tb\\\\n\\\"\xc3\xa9")?;
+    assert!(rt; text.as_slice() == b"> a\n\tb\\n\"\xc3\xa9".as_slice());
+    Ok(())
+}
+
+#[test]
+fn cuts_a_source_of_one_mebibyte(rt: HostRuntime) -> Result<(), Fail> {
+    let slashes = vec![in rt.alloc(); b'/'; 1_048_576]?;
+    assert!(rt; slashes.len() <= 1_048_576);
+    let tokens = lex(rt.alloc(), &slashes).ok().ok_or("not cut")?;
+    assert!(rt; tokens.is_empty());
+    let digits = vec![in rt.alloc(); b'1'; 1_048_576]?;
+    assert!(rt; digits.len() <= 1_048_576);
+    let place = Position { line: 1, column: 1 };
+    assert!(rt; lex(rt.alloc(), &digits) == Err(LexError::NumberTooWide(place)));
     Ok(())
 }

@@ -14,7 +14,9 @@ pub mod Report
 pub mod Pumps
 pub mod Texts
 pub mod Ready
+pub mod Refusals
 pub mod Replies
+pub mod Refused
 pub mod Answers
 pub mod Asking
 pub mod Calls

@@ -3,6 +3,7 @@ use Rattle.std.specs.Prelude.{ℕ, ◌+◌, List, [], ◌∷◌, ◌++◌, Optio
 use Rattle.std.specs.Str.{bytes_eq}
 use Rattle.ooo_time.specs.declared.time.Time.{Time}
 use Rattle.ooo_time.specs.TimeText.{time_text}
+use Rattle.ooo_lexer.specs.Texts.{unescaped}
 use Rattle.ooo_sim.specs.declared.model.ThreadModel.{ThreadModel}
 use Rattle.ooo_sim.specs.declared.model.Function.{Function}
 use Rattle.ooo_sim.specs.declared.model.Statement.{Statement}
@@ -14,9 +15,9 @@ use Rattle.ooo_sim.specs.Fitting.{ticks_in}
 use Rattle.ooo_sim.specs.World.{Left, Waits, Ended}
 use Rattle.ooo_sim.specs.Sequence.{Outcome, Activate, Result, IsRun, start}
 
--- what an item writes at a time
+-- what an item writes at a time: a text its value, with each escape as one byte
 abbrev pub item_text : Time → Item → List ℕ
-item_text now (item.Text bytes) = bytes
+item_text now (item.Text bytes) = unescaped bytes
 item_text now item.EndLine = 10 ∷ []
 item_text now item.TimeStamp = time_text now
 

@@ -5,6 +5,7 @@ mod asked;
 mod call;
 mod form;
 pub mod law;
+mod lines;
 mod mark;
 mod model;
 mod names;

@@ -46,7 +46,7 @@ pub enum Statement {
 /// What a print writes.
 #[derive(Debug, Drop)]
 pub enum Item {
-    /// These bytes.
+    /// A text, by the bytes between its quotes.
     Text(Bytes),
     /// A newline.
     EndLine,

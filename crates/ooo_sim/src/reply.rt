@@ -1,15 +1,16 @@
-ghost use Rattle.std.specs.Prelude.{◌≡◌, ◌≤◌, length, IfOk, IfSome, IfNone};
-ghost use Rattle.ooo_sim.specs.declared.model.ThreadModel.{ThreadModel as Tree};
+ghost use Rattle.std.specs.Prelude.{◌≡◌, ◌≤◌, length, IfOk, IfErr};
 ghost use Rattle.ooo_time.specs.Scales.{greatest_time};
 ghost use Rattle.ooo_sim.specs.Fitting.{FitsAmount};
 ghost use Rattle.ooo_sim.specs.Threads.{stop_time};
 ghost use Rattle.ooo_sim.specs.Asking.{StopsInTime};
 ghost use Rattle.ooo_sim.specs.Texts.{IsTextOf};
 ghost use Rattle.ooo_sim.specs.Ready.{IsReady, IsReportOf};
+ghost use Rattle.ooo_sim.specs.Refused.{Refuses, IsReplyTo};
 ghost use Rattle.ooo_sim.specs.Replies.{IsAnswer, answer_of};
 ghost use Rattle.ooo_sim.specs.Calls.{IsFailure};
 
 use crate::form::{FormError, read_model};
+use crate::lines::lexer_line;
 use crate::model::ThreadModel;
 use crate::names::processes_of;
 use crate::report::report;
@@ -35,6 +36,56 @@ struct Ready {
     processes: Vec<usize>,
 }
 
+// Why no model is run.
+#[derive(Clone, Copy)]
+enum Refused {
+    // The text is not cut into tokens.
+    Lexer(LexError),
+    // The tokens are no model of the form that is built so far.
+    Form,
+    // Memory ran out, which says nothing of the text.
+    OutOfMemory,
+}
+
+impl From<AllocError> for Refused {
+    ghost use Rattle.std.specs.Prelude.{◌≡◌};
+    ghost use Rattle.ooo_sim.specs.declared.reply.Refused.TheVariants.{OutOfMemory};
+
+    ghost from_gives = { λ _ e. e ≡ OutOfMemory };
+
+    fn from(_error: AllocError) -> Refused {
+        Refused::OutOfMemory
+    }
+}
+
+impl From<LexError> for Refused {
+    ghost use Rattle.std.specs.Prelude.{◌≡◌};
+    ghost use Rattle.ooo_sim.specs.Refused.{refused_by_lexer};
+
+    ghost from_gives = { λ e refused. refused ≡ refused_by_lexer e };
+
+    fn from(error: LexError) -> Refused {
+        match error {
+            LexError::OutOfMemory => Refused::OutOfMemory,
+            breach => Refused::Lexer(breach),
+        }
+    }
+}
+
+impl From<FormError> for Refused {
+    ghost use Rattle.std.specs.Prelude.{◌≡◌};
+    ghost use Rattle.ooo_sim.specs.Refused.{refused_by_form};
+
+    ghost from_gives = { λ e refused. refused ≡ refused_by_form e };
+
+    fn from(error: FormError) -> Refused {
+        match error {
+            FormError::NotBuilt => Refused::Form,
+            FormError::OutOfMemory => Refused::OutOfMemory,
+        }
+    }
+}
+
 /// A line that refuses, with its status.
 pub(crate) fn refusal(alloc: Global, status: u8, line: &[u8]) -> Result<Reply, AllocError>
     ensures status { IfOk result (λ reply. reply.status ≡ status) }
@@ -55,9 +106,24 @@ pub(crate) fn reply_to(alloc: Global, text: &[u8], stop: Option<Time>) -> Result
     if text.len() > MOST_BYTES {
         return refusal(alloc, 8, b"refused source TooLong\n");
     }
-    match model_of(alloc, text)? {
-        None => refusal(alloc, 3, b"refused form NotBuilt\n"),
-        Some(ready) => run(alloc, &ready, stop),
+    match model_of(alloc, text) {
+        Ok(ready) => run(alloc, &ready, stop),
+        Err(refused) => refused_reply(alloc, refused),
+    }
+}
+
+// The reply to a text that is no model.
+fn refused_reply(alloc: Global, refused: Refused) -> Result<Reply, AllocError>
+    ensures reply { IfOk result (λ reply. IsReplyTo refused reply) }
+    ensures status { IfOk result (λ reply. reply.status ≡ 3) }
+{
+    match refused {
+        Refused::Lexer(error) => Ok(Reply {
+            status: 3,
+            text: lexer_line(alloc, error)?,
+        }),
+        Refused::Form => refusal(alloc, 3, b"refused form NotBuilt\n"),
+        Refused::OutOfMemory => Err(AllocError),
     }
 }
 
@@ -91,24 +157,16 @@ fn stop_time(stop: Option<Time>, model: &ThreadModel) -> Time
 }
 
 // The model of a text, if it is one.
-fn model_of(alloc: Global, text: &[u8]) -> Result<Option<Ready>, AllocError>
+fn model_of(alloc: Global, text: &[u8]) -> Result<Ready, Refused>
     requires { length text.now ≤ 1048576 }
-    ensures none { IfOk result (λ found. IfNone found ((m : Tree) → IsTextOf text.now m → ⊥)) }
-    ensures text { IfOk result (λ found. IfSome found (λ ready. IsTextOf text.now ready.model)) }
-    ensures ready { IfOk result (λ found. IfSome found (λ ready. IsReady ready)) }
+    ensures refused { IfErr result (λ refused. Refuses text.now refused) }
+    ensures text { IfOk result (λ ready. IsTextOf text.now ready.model) }
+    ensures ready { IfOk result (λ ready. IsReady ready) }
 {
-    let tokens = match lex(alloc, text) {
-        Ok(tokens) => tokens,
-        Err(LexError::NotBuilt) => return Ok(None),
-        Err(LexError::OutOfMemory) => return Err(AllocError),
-    };
-    let model = match read_model(alloc, text, &tokens) {
-        Ok(model) => model,
-        Err(FormError::NotBuilt) => return Ok(None),
-        Err(FormError::OutOfMemory) => return Err(AllocError),
-    };
+    let tokens = lex(alloc, text)?;
+    let model = read_model(alloc, text, &tokens)?;
     match processes_of(alloc, &model)? {
-        None => Ok(None),
-        Some(processes) => Ok(Some(Ready { model, processes })),
+        None => Err(Refused::Form),
+        Some(processes) => Ok(Ready { model, processes }),
     }
 }

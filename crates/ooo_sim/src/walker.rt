@@ -7,6 +7,7 @@ ghost use Rattle.ooo_sim.specs.Walker.{body_at, result_of, stamp_at, due_stamp, 
 
 use crate::model::{Function, Item, Statement};
 use crate::run::{End, Run};
+use ooo_lexer::unescape;
 use ooo_time::{Stamp, Time, append};
 use std::alloc::{AllocError, Global};
 
@@ -202,7 +203,7 @@ fn print(output: &mut Vec<u8>, now: Time, item: &Item) -> Result<(), AllocError>
     ensures { OnOk result (output.new.items ≡ output.old.items ++ item_text now item.now) }
 {
     match item {
-        Item::Text(bytes) => output.extend_from_slice(bytes.as_slice())?,
+        Item::Text(bytes) => unescape(output, bytes.as_slice())?,
         Item::EndLine => output.push(b'\n')?,
         Item::TimeStamp => append(output, now)?,
     }

@@ -1,39 +1,52 @@
-use Rattle.std.proofs.Common.{arith, sym, ◌∙◌, subst}
+use Rattle.std.proofs.Common.{◌≡◌, ℕ, ◌<◌, Bool, true, false, eqb, arith, sym, ◌∙◌, subst}
+use Rattle.std.proofs.lemmas.Bool.{eqb-true, eqb-false}
 use Rattle.std.proofs.lemmas.List.{nil_from_length}
+use Rattle.ooo_lexer.proofs.Cuttings.{one_breach, no_cutting}
 use Rattle.ooo_lexer.proofs.Lexemes.{tokens_are, tokens_within, tokens_in_order, tokens_are_lexemes}
-use Rattle.ooo_lexer.proofs.Progress.{Reached, next_fits, reached_next, reached_end, reached_stop}
+use Rattle.ooo_lexer.proofs.Progress.{Reached, place_fits, head_fits, flaw_of, reached_next, reached_end, reached_breach}
 use Rattle.ooo_lexer.proofs.scan.lex.Goals as goal
 
-pub returns-in_default-head_of-clause-not_built : goal.returns-in_default-head_of-clause-not_built
-returns-in_default-head_of-clause-not_built c = λ _. reached_stop c.args.source.now c.pieces.rest.now c.pieces.tokens.items c.pieces.place c.pieces.invariant (omega arith) (sym c.head_of.ensures ∙ c.in_default-head_of.is)
+-- what `is_empty` says of the length
+some_left : (n : ℕ) (t : Bool) → t ≡ eqb n 0 → t ≡ false → 0 < n
+some_left n t is f = grind (arith, eqb-false n 0 (sym is ∙ f))
+
+none_left : (n : ℕ) (t : Bool) → t ≡ eqb n 0 → t ≡ true → n ≡ 0
+none_left n t is f = eqb-true n 0 (sym is ∙ f)
+
+pub flaw_error-requires-clause-within : goal.flaw_error-requires-clause-within
+flaw_error-requires-clause-within c = (flaw_of c.pieces.rest.now c.in-Err.flaw (some_left _ _ c.is_empty.ensures c.pieces-test.true) (sym c.head_of.ensures ∙ c.in-Err.is)).within
+
+pub returns-in-Err-clause-breach : goal.returns-in-Err-clause-breach
+returns-in-Err-clause-breach c = λ _. reached_breach c.args.source.now c.pieces.rest.now c.pieces.tokens.items c.pieces.place c.in-Err.flaw c.flaw_error.result c.pieces.invariant (some_left _ _ c.is_empty.ensures c.pieces-test.true)
+    (sym c.head_of.ensures ∙ c.in-Err.is) c.flaw_error.ensures
+
+pub returns-in-Err-clause-one : goal.returns-in-Err-clause-one
+returns-in-Err-clause-one c = λ e other b. one_breach c.args.source.now other c.flaw_error.result b (returns-in-Err-clause-breach c e)
+
+pub returns-in-Err-clause-uncut : goal.returns-in-Err-clause-uncut
+returns-in-Err-clause-uncut c = λ e pieces cut. no_cutting c.args.source.now c.flaw_error.result pieces (returns-in-Err-clause-breach c e) cut
 
 pub keep-requires : goal.keep-requires
-keep-requires c = omega (arith, (next_fits _ _ _ _ c.in-Some.head c.pieces.invariant (sym c.head_of.ensures ∙ c.in-Some.is)).start)
-
-pub after-place-requires-clause-start_fits : goal.after-place-requires-clause-start_fits
-after-place-requires-clause-start_fits c = omega (arith, (next_fits _ _ _ _ c.in-Some.head c.pieces.invariant (sym c.head_of.ensures ∙ c.in-Some.is)).start)
-
-pub after-place-requires-clause-line_fits : goal.after-place-requires-clause-line_fits
-after-place-requires-clause-line_fits c = omega (arith, (next_fits _ _ _ _ c.in-Some.head c.pieces.invariant (sym c.head_of.ensures ∙ c.in-Some.is)).line)
-
-pub after-place-requires-clause-column_fits : goal.after-place-requires-clause-column_fits
-after-place-requires-clause-column_fits c = omega (arith, (next_fits _ _ _ _ c.in-Some.head c.pieces.invariant (sym c.head_of.ensures ∙ c.in-Some.is)).column)
+keep-requires c =
+    let fits = place_fits _ _ _ _ c.pieces.invariant in
+    let head = head_fits c.pieces.rest.now c.in-Ok.head (some_left _ _ c.is_empty.ensures c.pieces-test.true) (sym c.head_of.ensures ∙ c.in-Ok.is) in
+    omega (arith, fits.start, head.1)
 
 pub split_at-requires : goal.split_at-requires
-split_at-requires c = (next_fits _ _ _ _ c.in-Some.head c.pieces.invariant (sym c.head_of.ensures ∙ c.in-Some.is)).within
+split_at-requires c = (head_fits c.pieces.rest.now c.in-Ok.head (some_left _ _ c.is_empty.ensures c.pieces-test.true) (sym c.head_of.ensures ∙ c.in-Ok.is)).1
 
 pub pieces-smaller : goal.pieces-smaller
 pieces-smaller c =
-    let fits = next_fits _ _ _ _ c.in-Some.head c.pieces.invariant (sym c.head_of.ensures ∙ c.in-Some.is) in
-    omega (arith, fits.some, fits.within)
+    let head = head_fits c.pieces.rest.now c.in-Ok.head (some_left _ _ c.is_empty.ensures c.pieces-test.true) (sym c.head_of.ensures ∙ c.in-Ok.is) in
+    omega (arith, head.0, head.1)
 
 pub pieces-preserved : goal.pieces-preserved
-pieces-preserved c = reached_next c.args.source.now c.pieces.rest.now _ c.pieces.tokens.items _ c.pieces.place _ c.in-Some.head c.pieces.invariant
-    (sym c.head_of.ensures ∙ c.in-Some.is) c.split_at.ensures.back c.in_ok-keep.ensures c.after-place.ensures
+pieces-preserved c = reached_next c.args.source.now c.pieces.rest.now _ _ c.pieces.tokens.items _ c.pieces.place _ c.in-Ok.head c.pieces.invariant (some_left _ _ c.is_empty.ensures c.pieces-test.true)
+    (sym c.head_of.ensures ∙ c.in-Ok.is) c.split_at.ensures.front c.split_at.ensures.back c.in_ok-keep.ensures c.after-place.ensures
 
 pub returns-clause-tokens : goal.returns-clause-tokens
 returns-clause-tokens c = reached_end c.args.source.now c.pieces.tokens.items c.pieces.place
-    (subst (λ r. Reached c.args.source.now r c.pieces.tokens.items c.pieces.place) (nil_from_length c.pieces.rest.now (omega arith)) c.pieces.invariant)
+    (subst (λ r. Reached c.args.source.now r c.pieces.tokens.items c.pieces.place) (nil_from_length c.pieces.rest.now (none_left _ _ c.is_empty.ensures c.pieces-test.false)) c.pieces.invariant)
 
 pub returns-clause-only : goal.returns-clause-only
 returns-clause-only c = λ pieces cut. tokens_are c.args.source.now c.pieces.tokens.items pieces (returns-clause-tokens c) cut
@@ -46,3 +59,6 @@ returns-clause-in_order c = tokens_in_order c.args.source.now c.pieces.tokens.it
 
 pub returns-clause-lexemes : goal.returns-clause-lexemes
 returns-clause-lexemes c = λ pieces cut. tokens_are_lexemes c.args.source.now c.pieces.tokens.items pieces (returns-clause-tokens c) cut
+
+pub returns-clause-unbroken : goal.returns-clause-unbroken
+returns-clause-unbroken c = λ e b. let t = returns-clause-tokens c in no_cutting c.args.source.now e t.pieces b t.cut

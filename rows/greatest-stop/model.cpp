@@ -1,0 +1,11 @@
+#include <systemc.h>
+SC_MODULE(M) {
+  void a() { cout << "a" << endl; wait(10, SC_NS); cout << sc_time_stamp() << endl; }
+  void b() { cout << "b" << endl; }
+  SC_CTOR(M) { SC_THREAD(a); SC_THREAD(b); }
+};
+int sc_main(int argc, char* argv[]) {
+  M m("m");
+  sc_start(4611686018427387903, SC_PS);
+  return 0;
+}

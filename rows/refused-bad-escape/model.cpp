@@ -1,0 +1,1 @@
+cout << "b\r" << endl;

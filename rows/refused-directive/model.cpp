@@ -1,0 +1,2 @@
+// a model
+  #include <systemc.h> x
