@@ -2,7 +2,7 @@
 
 mod table;
 
-use crate::{LexError, Number, NumberKind, Position, Token, TokenKind, lex, read_number, unescape};
+use crate::{LexError, Number, Position, Token, TokenKind, lex, read_number, unescape};
 use std::alloc::{AllocError, Global};
 use std::process::Abort;
 use std::test::Fail;
@@ -129,29 +129,16 @@ fn places_tokens(rt: HostRuntime) -> Result<(), Fail> {
 
 #[test]
 fn reads_numbers(rt: HostRuntime) {
-    let cases: [(&[u8], NumberKind, u64); 12] = [
-        (b"0", NumberKind::Int, 0),
-        (b"2147483647", NumberKind::Int, 2_147_483_647),
-        (b"2147483648", NumberKind::Long, 2_147_483_648),
-        (b"0x7fffffff", NumberKind::Int, 2_147_483_647),
-        (b"0x80000000", NumberKind::Uint, 2_147_483_648),
-        (b"0X1FFFFFFFF", NumberKind::Long, 8_589_934_591),
-        (
-            b"0x8000000000000000",
-            NumberKind::Ulong,
-            9_223_372_036_854_775_808,
-        ),
-        (b"4294967295u", NumberKind::Uint, 4_294_967_295),
-        (b"4294967296U", NumberKind::Ulong, 4_294_967_296),
-        (b"7ll", NumberKind::Long, 7),
-        (b"0xALL", NumberKind::Long, 10),
-        (b"1ull", NumberKind::Ulong, 1),
-    ];
-    for (bytes, kind, value) in cases {
-        assert!(rt; read_number(bytes) == Some(Number { kind, value }));
+    for (bytes, kind, value) in &table::KINDS {
+        let number = Number {
+            kind: *kind,
+            value: *value,
+        };
+        assert!(rt; read_number(bytes) == Some(number));
     }
-    assert!(rt; read_number(b"1lu").is_none());
-    assert!(rt; read_number(b"18446744073709551616").is_none());
+    for bytes in &table::NO_NUMBERS {
+        assert!(rt; read_number(bytes).is_none());
+    }
 }
 
 #[test]

@@ -1,5 +1,6 @@
 //! Sources with their tokens or their breach.
 
+use crate::NumberKind;
 use crate::tests::Case;
 
 // Spaces, words and what begins nothing.
@@ -150,4 +151,75 @@ pub static DIRECTIVES: [Case; 20] = [
     (b"#define A", b"Directive 1:1"),
     (b"#", b"Directive 1:1"),
     (b"# /* */ include <systemc>", b"Directive 1:1"),
+];
+
+// Numbers with their kinds and values.
+pub static KINDS: [(&[u8], NumberKind, u64); 24] = [
+    (b"0", NumberKind::Int, 0),
+    (b"2147483647", NumberKind::Int, 2_147_483_647),
+    (b"2147483648", NumberKind::Long, 2_147_483_648),
+    (
+        b"9223372036854775807",
+        NumberKind::Long,
+        9_223_372_036_854_775_807,
+    ),
+    (b"0u", NumberKind::Uint, 0),
+    (b"4294967295u", NumberKind::Uint, 4_294_967_295),
+    (b"4294967296U", NumberKind::Ulong, 4_294_967_296),
+    (
+        b"18446744073709551615u",
+        NumberKind::Ulong,
+        18_446_744_073_709_551_615,
+    ),
+    (b"7ll", NumberKind::Long, 7),
+    (
+        b"9223372036854775807LL",
+        NumberKind::Long,
+        9_223_372_036_854_775_807,
+    ),
+    (b"1ull", NumberKind::Ulong, 1),
+    (
+        b"18446744073709551615ULL",
+        NumberKind::Ulong,
+        18_446_744_073_709_551_615,
+    ),
+    (b"0x7fffffff", NumberKind::Int, 2_147_483_647),
+    (b"0x80000000", NumberKind::Uint, 2_147_483_648),
+    (b"0XFFFFFFFF", NumberKind::Uint, 4_294_967_295),
+    (b"0x100000000", NumberKind::Long, 4_294_967_296),
+    (
+        b"0x7fffffffffffffff",
+        NumberKind::Long,
+        9_223_372_036_854_775_807,
+    ),
+    (
+        b"0x8000000000000000",
+        NumberKind::Ulong,
+        9_223_372_036_854_775_808,
+    ),
+    (
+        b"0xffffffffffffffff",
+        NumberKind::Ulong,
+        18_446_744_073_709_551_615,
+    ),
+    (b"0xALL", NumberKind::Long, 10),
+    (
+        b"0x8000000000000000ll",
+        NumberKind::Ulong,
+        9_223_372_036_854_775_808,
+    ),
+    (b"0xFFFFFFFFu", NumberKind::Uint, 4_294_967_295),
+    (b"0x100000000u", NumberKind::Ulong, 4_294_967_296),
+    (b"0xaull", NumberKind::Ulong, 10),
+];
+
+// Bytes that are no number, or too wide a one.
+pub static NO_NUMBERS: [&[u8]; 7] = [
+    b"",
+    b"08",
+    b"0x",
+    b"1lu",
+    b"x1",
+    b"9223372036854775808",
+    b"18446744073709551616",
 ];
