@@ -1,0 +1,1 @@
+// signs without end
