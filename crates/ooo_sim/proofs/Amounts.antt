@@ -12,8 +12,8 @@ use Rattle.std.proofs.lemmas.Bool.{false≢true}
 use Rattle.ooo_time.specs.declared.time.Scale.{Scale}
 use Rattle.ooo_time.specs.declared.time.Scale.TheVariants as scale
 use Rattle.ooo_time.specs.Scales.{ticks_of}
-use Rattle.ooo_sim.specs.declared.model.Amount.{Amount}
-use Rattle.ooo_sim.specs.Fitting.{FitsAmount}
+use Rattle.ooo_meaning.specs.declared.model.Amount.{Amount}
+use Rattle.ooo_meaning.specs.Fitting.{FitsAmount}
 use Rattle.ooo_sim.specs.Spelling.{scale_name}
 
 -- what doesn't parse is no number's text

@@ -5,14 +5,14 @@ use Rattle.ooo_lexer.specs.declared.token.TokenKind.{TokenKind}
 use Rattle.ooo_lexer.specs.declared.token.TokenKind.TheVariants as kind
 use Rattle.ooo_lexer.specs.Pieces.{Lexeme}
 use Rattle.ooo_sim.specs.declared.mark.Mark.TheVariants as mark
-use Rattle.ooo_sim.specs.declared.model.Function.{Function}
-use Rattle.ooo_sim.specs.declared.model.Item.{Item}
-use Rattle.ooo_sim.specs.declared.model.Item.TheVariants as item
-use Rattle.ooo_sim.specs.declared.model.Statement.{Statement}
-use Rattle.ooo_sim.specs.declared.model.Statement.TheVariants as statement
+use Rattle.ooo_meaning.specs.declared.model.Function.{Function}
+use Rattle.ooo_meaning.specs.declared.model.Item.{Item}
+use Rattle.ooo_meaning.specs.declared.model.Item.TheVariants as item
+use Rattle.ooo_meaning.specs.declared.model.Statement.{Statement}
+use Rattle.ooo_meaning.specs.declared.model.Statement.TheVariants as statement
 use Rattle.ooo_sim.specs.Marks.{lexeme_of, marks, word, sign}
 use Rattle.ooo_sim.specs.Spelling.{quoted, number, scale_name, spell_amount, spell_item, spell_items, spell_statement, spell_statements, spell_function, spell_functions, spell_thread, spell_threads}
-use Rattle.ooo_sim.specs.Fitting.{FitsAmount, FitsStatement, FitStatements, FitFunctions}
+use Rattle.ooo_meaning.specs.Fitting.{FitsAmount, FitsStatement, FitStatements, FitFunctions}
 use Rattle.ooo_sim.proofs.Amounts.{same_amount, count_below}
 use Rattle.ooo_sim.proofs.Sequences.{Anything, each_fits, IsClear, IsApart, joined_same}
 

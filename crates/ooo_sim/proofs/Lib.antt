@@ -8,11 +8,6 @@ pub mod Models
 pub mod NameLists
 pub mod Numbers
 pub mod Rules
-pub mod Fits
-pub mod Activations
-pub mod Turns
-pub mod Cycles
-pub mod OneRun
 pub mod OneAnswer
 pub mod Bytes
 pub mod Writing

@@ -6,8 +6,8 @@ use Rattle.ooo_sim.specs.declared.form.module.ModulePart.{ModulePart}
 use Rattle.ooo_sim.specs.declared.form.sc_main.BodyPart.{BodyPart}
 use Rattle.ooo_sim.specs.declared.form.sc_main.Parameters.{Parameters}
 use Rattle.ooo_sim.specs.declared.mark.Mark.TheVariants as mark
-use Rattle.ooo_sim.specs.declared.model.ThreadModel.{ThreadModel}
-use Rattle.ooo_sim.specs.Fitting.{FitFunctions, FitsAmount, FitsModel}
+use Rattle.ooo_meaning.specs.declared.model.ThreadModel.{ThreadModel}
+use Rattle.ooo_meaning.specs.Fitting.{FitFunctions, FitsAmount, FitsModel}
 use Rattle.ooo_sim.specs.Marks.{lexeme_of, marks}
 use Rattle.ooo_sim.specs.Parts.{spell_constructor, HasModule, HasParameters, HasBody}
 use Rattle.ooo_sim.specs.Spelling.{number, spell_amount, spell_functions, spell_threads, spell_module, spell_head, spell_body, spell_model}

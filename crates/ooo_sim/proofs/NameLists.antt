@@ -2,7 +2,7 @@
 use Rattle.std.proofs.Common.{◌≡◌, ℕ, zero, suc, ◌+◌, ◌<◌, Bool, true, false, not, ◌||◌, ◌&&◌, List, [], ◌∷◌, ◌++◌, length, take, drop, get_or, refl, sym, ap, ◌∙◌, arith, add-one, Bor, if◌then◌else◌}
 use Rattle.std.specs.List.{list_any, list_all}
 use Rattle.std.specs.Str.{bytes_eq}
-use Rattle.ooo_sim.specs.declared.model.Function.{Function}
+use Rattle.ooo_meaning.specs.declared.model.Function.{Function}
 use Rattle.ooo_sim.specs.Names.{has_name, differ_from, function_names, is_wait, is_registered}
 use Rattle.ooo_sim.specs.Bodies.{bytes_in}
 

@@ -3,11 +3,11 @@ use Rattle.std.proofs.Common.{◌≡◌, ℕ, ◌+◌, ◌<◌, ◌≤◌, Bool,
 use Rattle.std.specs.List.{position, position_or_len}
 use Rattle.std.specs.Str.{bytes_eq}
 use Rattle.std.proofs.lemmas.List.{take-append-drop, length-map}
-use Rattle.ooo_sim.specs.declared.model.Function.{Function}
+use Rattle.ooo_meaning.specs.declared.model.Function.{Function}
 use Rattle.ooo_sim.specs.Names.{has_name, function_names}
 use Rattle.ooo_sim.specs.Bodies.{bytes_in}
-use Rattle.ooo_sim.specs.Walker.{body_at}
-use Rattle.ooo_sim.specs.Threads.{body_named}
+use Rattle.ooo_meaning.specs.Walker.{body_at}
+use Rattle.ooo_meaning.specs.Threads.{body_named}
 
 -- the first place of a name, or the length
 abbrev pub place : List ℕ → List (List ℕ) → ℕ

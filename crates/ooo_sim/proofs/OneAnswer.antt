@@ -11,19 +11,19 @@ use Rattle.ooo_sim.specs.declared.reply.Refused.TheVariants as refused
 use Rattle.ooo_sim.specs.Refused.{refused_by_form, Refuses, IsReplyTo}
 use Rattle.ooo_lexer.specs.Breaches.{HasBreach}
 use Rattle.ooo_lexer.proofs.Cuttings.{one_cutting, one_breach, no_cutting}
-use Rattle.ooo_sim.specs.declared.model.ThreadModel.{ThreadModel}
+use Rattle.ooo_meaning.specs.declared.model.ThreadModel.{ThreadModel}
 use Rattle.ooo_sim.specs.declared.reply.Reply.{Reply}
-use Rattle.ooo_sim.specs.Sequence.{Result as RunResult, start}
-use Rattle.ooo_sim.specs.Threads.{IsThreadRun, activate, bodies_of, stop_time}
+use Rattle.ooo_meaning.specs.Sequence.{Result as RunResult, start}
+use Rattle.ooo_meaning.specs.Threads.{IsThreadRun, activate, bodies_of, stop_time}
 use Rattle.ooo_sim.specs.Spelling.{spell_model}
-use Rattle.ooo_sim.specs.Fitting.{FitsModel}
+use Rattle.ooo_meaning.specs.Fitting.{FitsModel}
 use Rattle.ooo_sim.specs.Names.{keeps_rules}
 use Rattle.ooo_sim.specs.Texts.{IsTextOf}
 use Rattle.ooo_sim.specs.Ready.{IsReportOf}
 use Rattle.ooo_sim.specs.Replies.{Answer, answer, answer_of, most_bytes, IsAnswer, too_long, no_tokens, no_model, ran}
 use Rattle.ooo_sim.specs.Refusals.{lexer_line}
-use Rattle.ooo_sim.specs.Report.{report_text}
-use Rattle.ooo_sim.proofs.OneRun.{one_result}
+use Rattle.ooo_meaning.specs.Report.{report_text}
+use Rattle.ooo_meaning.proofs.OneRun.{one_result}
 use Rattle.ooo_sim.proofs.Models.{one_model}
 
 pub one_text : (text : List ℕ) (m n : ThreadModel) → IsTextOf text m → IsTextOf text n → m ≡ n

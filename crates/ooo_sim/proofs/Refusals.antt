@@ -2,9 +2,9 @@
 use Rattle.std.proofs.Common.{◌≡◌, ℕ, List, [], ◌∷◌, ◌++◌, drop, sym, ap, ◌∙◌, append_assoc}
 use Rattle.ooo_lexer.specs.Pieces.{Lexeme}
 use Rattle.ooo_sim.specs.declared.mark.Mark.TheVariants as mark
-use Rattle.ooo_sim.specs.declared.model.Function.{Function}
-use Rattle.ooo_sim.specs.declared.model.ThreadModel.{ThreadModel}
-use Rattle.ooo_sim.specs.Fitting.{FitFunctions}
+use Rattle.ooo_meaning.specs.declared.model.Function.{Function}
+use Rattle.ooo_meaning.specs.declared.model.ThreadModel.{ThreadModel}
+use Rattle.ooo_meaning.specs.Fitting.{FitFunctions}
 use Rattle.ooo_sim.specs.Marks.{lexeme_of, marks, word}
 use Rattle.ooo_sim.specs.Parts.{spell_constructor}
 use Rattle.ooo_sim.specs.Spelling.{spell_functions, spell_threads, spell_module}

@@ -1,7 +1,7 @@
 -- What holds of every model.
 use Rattle.std.specs.Prelude.{◌≡◌}
-use Rattle.ooo_sim.specs.declared.model.ThreadModel.{ThreadModel}
-use Rattle.ooo_sim.specs.Fitting.{FitsModel}
+use Rattle.ooo_meaning.specs.declared.model.ThreadModel.{ThreadModel}
+use Rattle.ooo_meaning.specs.Fitting.{FitsModel}
 use Rattle.ooo_sim.specs.Spelling.{spell_model}
 
 -- no two models are spelled alike, where the times of one of them fit

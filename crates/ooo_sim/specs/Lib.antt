@@ -2,15 +2,9 @@ pub mod Marks
 pub mod Spelling
 pub mod Parts
 pub mod Laws
-pub mod Fitting
 pub mod Reserved
 pub mod Names
 pub mod Bodies
-pub mod World
-pub mod Sequence
-pub mod Threads
-pub mod Walker
-pub mod Report
 pub mod Pumps
 pub mod Texts
 pub mod Ready

@@ -2,10 +2,10 @@
 use Rattle.std.specs.Prelude.{ℕ, Bool, true, false, not, ◌&&◌, ◌||◌, nat_le, List, [], ◌∷◌, ◌++◌, map, length}
 use Rattle.std.specs.List.{list_any, list_all}
 use Rattle.std.specs.Str.{bytes_eq}
-use Rattle.ooo_sim.specs.declared.model.ThreadModel.{ThreadModel}
-use Rattle.ooo_sim.specs.declared.model.Function.{Function}
-use Rattle.ooo_sim.specs.declared.model.Statement.{Statement}
-use Rattle.ooo_sim.specs.declared.model.Statement.TheVariants as statement
+use Rattle.ooo_meaning.specs.declared.model.ThreadModel.{ThreadModel}
+use Rattle.ooo_meaning.specs.declared.model.Function.{Function}
+use Rattle.ooo_meaning.specs.declared.model.Statement.{Statement}
+use Rattle.ooo_meaning.specs.declared.model.Statement.TheVariants as statement
 use Rattle.ooo_sim.specs.Reserved.{is_reserved}
 
 -- a name is among these

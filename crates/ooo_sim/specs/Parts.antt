@@ -2,7 +2,7 @@
 use Rattle.std.specs.Prelude.{◌≡◌, ℕ, List, [], ◌∷◌, ◌++◌}
 use Rattle.ooo_lexer.specs.Pieces.{Lexeme}
 use Rattle.ooo_sim.specs.declared.mark.Mark.TheVariants as mark
-use Rattle.ooo_sim.specs.declared.model.ThreadModel.{ThreadModel}
+use Rattle.ooo_meaning.specs.declared.model.ThreadModel.{ThreadModel}
 use Rattle.ooo_sim.specs.declared.form.module.ModulePart.{ModulePart}
 use Rattle.ooo_sim.specs.declared.form.sc_main.BodyPart.{BodyPart}
 use Rattle.ooo_sim.specs.declared.form.sc_main.Parameters.{Parameters}

@@ -1,13 +1,13 @@
 -- A model that may run, and the report of its run.
 use Rattle.std.specs.Prelude.{◌≡◌, ℕ, ◌<◌, List, Option, All, map, length}
 use Rattle.ooo_time.specs.declared.time.Time.{Time}
-use Rattle.ooo_sim.specs.declared.model.ThreadModel.{ThreadModel}
+use Rattle.ooo_meaning.specs.declared.model.ThreadModel.{ThreadModel}
 use Rattle.ooo_sim.specs.declared.reply.Ready.{Ready}
-use Rattle.ooo_sim.specs.Sequence.{Result}
-use Rattle.ooo_sim.specs.Fitting.{FitsModel}
-use Rattle.ooo_sim.specs.Threads.{IsThreadRun, bodies_of, stop_time}
-use Rattle.ooo_sim.specs.Walker.{body_at}
-use Rattle.ooo_sim.specs.Report.{report_text}
+use Rattle.ooo_meaning.specs.Sequence.{Result}
+use Rattle.ooo_meaning.specs.Fitting.{FitsModel}
+use Rattle.ooo_meaning.specs.Threads.{IsThreadRun, bodies_of, stop_time}
+use Rattle.ooo_meaning.specs.Walker.{body_at}
+use Rattle.ooo_meaning.specs.Report.{report_text}
 
 -- the numbers are those of the processes' functions, and the model's times fit
 pub record IsReady (ready : Ready) : Type 0 where

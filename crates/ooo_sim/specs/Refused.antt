@@ -6,7 +6,7 @@ use Rattle.ooo_lexer.specs.Breaches.{HasBreach}
 use Rattle.ooo_lexer.specs.Pieces.{Piece, Cuts}
 use Rattle.ooo_sim.specs.declared.form.FormError.{FormError}
 use Rattle.ooo_sim.specs.declared.form.FormError.TheVariants as form
-use Rattle.ooo_sim.specs.declared.model.ThreadModel.{ThreadModel}
+use Rattle.ooo_meaning.specs.declared.model.ThreadModel.{ThreadModel}
 use Rattle.ooo_sim.specs.declared.reply.Reply.{Reply}
 use Rattle.ooo_sim.specs.declared.reply.Refused.{Refused}
 use Rattle.ooo_sim.specs.declared.reply.Refused.TheVariants as refused

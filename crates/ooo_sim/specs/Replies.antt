@@ -4,13 +4,13 @@ use Rattle.ooo_time.specs.declared.time.Time.{Time}
 use Rattle.ooo_lexer.specs.declared.error.LexError.{LexError}
 use Rattle.ooo_lexer.specs.Breaches.{HasBreach}
 use Rattle.ooo_lexer.specs.Pieces.{Piece, Cuts}
-use Rattle.ooo_sim.specs.declared.model.ThreadModel.{ThreadModel}
+use Rattle.ooo_meaning.specs.declared.model.ThreadModel.{ThreadModel}
 use Rattle.ooo_sim.specs.declared.reply.Reply.{Reply as Held}
 use Rattle.ooo_sim.specs.Refusals.{lexer_line}
-use Rattle.ooo_sim.specs.Sequence.{Result}
-use Rattle.ooo_sim.specs.Threads.{IsThreadRun, bodies_of, stop_time}
+use Rattle.ooo_meaning.specs.Sequence.{Result}
+use Rattle.ooo_meaning.specs.Threads.{IsThreadRun, bodies_of, stop_time}
 use Rattle.ooo_sim.specs.Texts.{IsTextOf}
-use Rattle.ooo_sim.specs.Report.{report_text}
+use Rattle.ooo_meaning.specs.Report.{report_text}
 
 -- a status, and the text that is written
 pub record Answer : Type 0 where

@@ -5,13 +5,13 @@ use Rattle.ooo_time.specs.declared.time.Scale.TheVariants as scale
 use Rattle.ooo_lexer.specs.declared.token.TokenKind.TheVariants as kind
 use Rattle.ooo_lexer.specs.Pieces.{Lexeme}
 use Rattle.ooo_sim.specs.declared.mark.Mark.TheVariants as mark
-use Rattle.ooo_sim.specs.declared.model.ThreadModel.{ThreadModel}
-use Rattle.ooo_sim.specs.declared.model.Function.{Function}
-use Rattle.ooo_sim.specs.declared.model.Statement.{Statement}
-use Rattle.ooo_sim.specs.declared.model.Statement.TheVariants as statement
-use Rattle.ooo_sim.specs.declared.model.Item.{Item}
-use Rattle.ooo_sim.specs.declared.model.Item.TheVariants as item
-use Rattle.ooo_sim.specs.declared.model.Amount.{Amount}
+use Rattle.ooo_meaning.specs.declared.model.ThreadModel.{ThreadModel}
+use Rattle.ooo_meaning.specs.declared.model.Function.{Function}
+use Rattle.ooo_meaning.specs.declared.model.Statement.{Statement}
+use Rattle.ooo_meaning.specs.declared.model.Statement.TheVariants as statement
+use Rattle.ooo_meaning.specs.declared.model.Item.{Item}
+use Rattle.ooo_meaning.specs.declared.model.Item.TheVariants as item
+use Rattle.ooo_meaning.specs.declared.model.Amount.{Amount}
 use Rattle.ooo_sim.specs.Marks.{word, marks}
 
 -- a text stands between double quotes

@@ -2,8 +2,8 @@
 
 ghost use Rattle.std.specs.Prelude.{◌≡◌, All, IfOk, map};
 ghost use Rattle.ooo_lexer.specs.Spans.{IsWithin, lexeme_at};
-ghost use Rattle.ooo_sim.specs.declared.model.ThreadModel.{ThreadModel as Model};
-ghost use Rattle.ooo_sim.specs.Fitting.{FitsModel};
+ghost use Rattle.ooo_meaning.specs.declared.model.ThreadModel.{ThreadModel as Model};
+ghost use Rattle.ooo_meaning.specs.Fitting.{FitsModel};
 ghost use Rattle.ooo_sim.specs.Spelling.{spell_model};
 
 mod amount;
@@ -13,8 +13,8 @@ mod sc_main;
 mod statement;
 
 use crate::form::lexemes::Lexemes;
-use crate::model::ThreadModel;
 use ooo_lexer::Token;
+use ooo_meaning::ThreadModel;
 use std::alloc::{AllocError, Global};
 
 /// Why lexemes are no model of the form.

@@ -3,17 +3,11 @@
 ghost use Rattle.std.specs.Prelude.{◌≡◌, [], ◌∷◌, None, codes};
 ghost use Rattle.ooo_sim.specs.Asking.{request, PlainRun};
 ghost use Rattle.ooo_sim.specs.Laws.{IsOneModel};
-ghost use Rattle.ooo_sim.specs.Walker.{HasOneResult};
 ghost use Rattle.ooo_sim.specs.Answers.{HasOneAnswer};
 
 /// A text is the spelling of one model at most: the grammar has no two readings.
 pub fn one_model()
     ensures { IsOneModel }
-{}
-
-/// A run of threads has one result.
-pub fn one_result()
-    ensures { HasOneResult }
 {}
 
 /// A text has one answer: one status and one text to write.

@@ -7,13 +7,9 @@ mod form;
 pub mod law;
 mod lines;
 mod mark;
-mod model;
 mod names;
 mod pump;
 mod reply;
-mod report;
 mod reserved;
-mod run;
-mod walker;
 
 pub use call::{alone, simulate};

@@ -2,13 +2,13 @@ ghost use Rattle.std.specs.Prelude.{◌≡◌, ◌<◌, ◌++◌, [], ◌∷◌,
 ghost use Rattle.std.specs.List.{list_any, list_all};
 ghost use Rattle.ooo_sim.specs.Names.{has_name, are_distinct, are_free, is_wait, is_registered, function_names, member_names, main_names, keeps_rules, names_keep_rules, threads_keep_rules};
 ghost use Rattle.ooo_sim.specs.Reserved.{is_reserved};
-ghost use Rattle.ooo_sim.specs.Threads.{body_named, bodies_of};
+ghost use Rattle.ooo_meaning.specs.Threads.{body_named, bodies_of};
 ghost use Rattle.ooo_sim.specs.Bodies.{bytes_in, names_in};
-ghost use Rattle.ooo_sim.specs.Walker.{body_at};
+ghost use Rattle.ooo_meaning.specs.Walker.{body_at};
 
-use crate::model::{Bytes, Function, Statement, ThreadModel};
 use crate::reserved::is_reserved;
 use indexmap::IndexSet;
+use ooo_meaning::{Bytes, Function, Statement, ThreadModel};
 use std::alloc::{AllocError, Global};
 
 // How many threads a model has at most.

@@ -1,7 +1,7 @@
 ghost use Rattle.std.specs.Prelude.{◌≡◌, ◌≤◌, length, IfOk, IfErr};
 ghost use Rattle.ooo_time.specs.Scales.{greatest_time};
-ghost use Rattle.ooo_sim.specs.Fitting.{FitsAmount};
-ghost use Rattle.ooo_sim.specs.Threads.{stop_time};
+ghost use Rattle.ooo_meaning.specs.Fitting.{FitsAmount};
+ghost use Rattle.ooo_meaning.specs.Threads.{stop_time};
 ghost use Rattle.ooo_sim.specs.Asking.{StopsInTime};
 ghost use Rattle.ooo_sim.specs.Texts.{IsTextOf};
 ghost use Rattle.ooo_sim.specs.Ready.{IsReady, IsReportOf};
@@ -11,11 +11,9 @@ ghost use Rattle.ooo_sim.specs.Calls.{IsFailure};
 
 use crate::form::{FormError, read_model};
 use crate::lines::lexer_line;
-use crate::model::ThreadModel;
 use crate::names::processes_of;
-use crate::report::report;
-use crate::walker::run_threads;
 use ooo_lexer::{LexError, lex};
+use ooo_meaning::{ThreadModel, run_threads, write_report};
 use ooo_time::Time;
 use std::alloc::{AllocError, Global};
 
@@ -139,7 +137,7 @@ fn run(alloc: Global, ready: &Ready, stop: Option<Time>) -> Result<Reply, AllocE
     let run = run_threads(alloc, functions, &ready.processes, until)?;
     Ok(Reply {
         status: 0,
-        text: report(run)?,
+        text: write_report(run)?,
     })
 }
 

@@ -1,16 +1,16 @@
 ghost use Rattle.std.specs.Prelude.{◌≡◌, ◌<◌, ◌^◌, ℕ, List, ◌++◌, MatchOption, IfOk, IfErr, IsTrue, ◌↔◌, decimal};
 ghost use Rattle.ooo_lexer.specs.Pieces.{Lexeme};
 ghost use Rattle.ooo_time.specs.declared.time.Scale.{Scale as Unit};
-ghost use Rattle.ooo_sim.specs.declared.model.Amount.{Amount as Time};
-ghost use Rattle.ooo_sim.specs.Fitting.{FitsAmount};
+ghost use Rattle.ooo_meaning.specs.declared.model.Amount.{Amount as Time};
+ghost use Rattle.ooo_meaning.specs.Fitting.{FitsAmount};
 ghost use Rattle.ooo_sim.specs.Spelling.{scale_name, spell_amount};
 
 use crate::form::FormError;
 use crate::form::lexemes::Lexemes;
 use crate::mark::Mark;
-use crate::model::Amount;
 use itoa::Buffer;
 use ooo_lexer::TokenKind;
+use ooo_meaning::Amount;
 use ooo_time::{Scale, from_amount};
 use std::str;
 

@@ -7,8 +7,8 @@ ghost use Rattle.ooo_sim.specs.Spelling.{number, quoted};
 
 use crate::form::FormError;
 use crate::mark::Mark;
-use crate::model::Bytes;
 use ooo_lexer::{Token, TokenKind};
+use ooo_meaning::Bytes;
 use sqlite_items::Items;
 use std::alloc::Global;
 use std::marker::Model;

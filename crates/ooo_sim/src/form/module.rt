@@ -1,9 +1,9 @@
 ghost use Rattle.std.specs.Prelude.{◌≡◌, ℕ, List, [], ◌∷◌, ◌++◌, IfOk};
 ghost use Rattle.ooo_lexer.specs.Pieces.{Lexeme};
 ghost use Rattle.ooo_sim.specs.declared.mark.Mark.TheVariants as mark;
-ghost use Rattle.ooo_sim.specs.declared.model.Function.{Function as Member};
-ghost use Rattle.ooo_sim.specs.declared.model.ThreadModel.{ThreadModel};
-ghost use Rattle.ooo_sim.specs.Fitting.{FitStatements, FitFunctions};
+ghost use Rattle.ooo_meaning.specs.declared.model.Function.{Function as Member};
+ghost use Rattle.ooo_meaning.specs.declared.model.ThreadModel.{ThreadModel};
+ghost use Rattle.ooo_meaning.specs.Fitting.{FitStatements, FitFunctions};
 ghost use Rattle.ooo_sim.specs.Marks.{lexeme_of};
 ghost use Rattle.ooo_sim.specs.Parts.{spell_constructor, HasModule};
 ghost use Rattle.ooo_sim.specs.Spelling.{spell_function, spell_functions, spell_thread, spell_threads, spell_module};
@@ -11,7 +11,7 @@ ghost use Rattle.ooo_sim.specs.Spelling.{spell_function, spell_functions, spell_
 use crate::form::FormError;
 use crate::form::lexemes::Lexemes;
 use crate::mark::Mark;
-use crate::model::{Bytes, Function};
+use ooo_meaning::{Bytes, Function};
 use sqlite_items::Items;
 use std::alloc::Global;
 

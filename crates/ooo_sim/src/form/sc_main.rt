@@ -1,14 +1,14 @@
 ghost use Rattle.std.specs.Prelude.{◌≡◌, List, ◌++◌, IfOk};
 ghost use Rattle.ooo_lexer.specs.Pieces.{Lexeme};
-ghost use Rattle.ooo_sim.specs.declared.model.ThreadModel.{ThreadModel};
-ghost use Rattle.ooo_sim.specs.Fitting.{FitsAmount};
+ghost use Rattle.ooo_meaning.specs.declared.model.ThreadModel.{ThreadModel};
+ghost use Rattle.ooo_meaning.specs.Fitting.{FitsAmount};
 ghost use Rattle.ooo_sim.specs.Parts.{HasParameters, HasBody};
 ghost use Rattle.ooo_sim.specs.Spelling.{spell_head, spell_body};
 
 use crate::form::FormError;
 use crate::form::lexemes::Lexemes;
 use crate::mark::Mark;
-use crate::model::{Amount, Bytes};
+use ooo_meaning::{Amount, Bytes};
 use std::alloc::Global;
 
 /// The names of the two parameters of `sc_main`.

@@ -1,16 +1,16 @@
 ghost use Rattle.std.specs.Prelude.{◌≡◌, List, [], ◌∷◌, ◌++◌, IfOk};
 ghost use Rattle.ooo_lexer.specs.Pieces.{Lexeme};
 ghost use Rattle.ooo_sim.specs.declared.mark.Mark.TheVariants as mark;
-ghost use Rattle.ooo_sim.specs.declared.model.Item.{Item as Printed};
-ghost use Rattle.ooo_sim.specs.declared.model.Statement.{Statement as Step};
-ghost use Rattle.ooo_sim.specs.Fitting.{FitsStatement, FitStatements};
+ghost use Rattle.ooo_meaning.specs.declared.model.Item.{Item as Printed};
+ghost use Rattle.ooo_meaning.specs.declared.model.Statement.{Statement as Step};
+ghost use Rattle.ooo_meaning.specs.Fitting.{FitsStatement, FitStatements};
 ghost use Rattle.ooo_sim.specs.Marks.{lexeme_of, marks};
 ghost use Rattle.ooo_sim.specs.Spelling.{spell_item, spell_items, spell_statement, spell_statements};
 
 use crate::form::FormError;
 use crate::form::lexemes::Lexemes;
 use crate::mark::Mark;
-use crate::model::{Item, Statement};
+use ooo_meaning::{Item, Statement};
 use sqlite_items::Items;
 use std::alloc::Global;
 

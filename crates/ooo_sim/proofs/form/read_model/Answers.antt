@@ -1,6 +1,6 @@
 use Rattle.std.proofs.Common.{[], refl, sym, ◌∙◌}
 use Rattle.std.proofs.lemmas.List.{append-nil}
-use Rattle.ooo_sim.specs.declared.model.ThreadModel.{ThreadModel}
+use Rattle.ooo_meaning.specs.declared.model.ThreadModel.{ThreadModel}
 use Rattle.ooo_sim.specs.Spelling.{spell_body}
 use Rattle.ooo_sim.proofs.Errors.{passed_on}
 use Rattle.ooo_sim.proofs.Models.{after_module, after_head, after_body, model_read}

@@ -1,5 +1,5 @@
 use Rattle.std.proofs.Common.{◌≡◌, ◌<◌, ◌+◌, ◌∙◌, ℕ, List, Bor, length, take, get_or, sym, ap, ◌++◌, ◌∷◌, [], subst}
-use Rattle.ooo_sim.specs.declared.model.Function.{Function}
+use Rattle.ooo_meaning.specs.declared.model.Function.{Function}
 use Rattle.ooo_sim.specs.Names.{function_names}
 use Rattle.ooo_sim.specs.Bodies.{bytes_in}
 use Rattle.ooo_sim.proofs.NameLists.{take_function, bytes_in-append}

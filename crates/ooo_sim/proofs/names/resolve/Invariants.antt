@@ -1,8 +1,8 @@
 use Rattle.std.proofs.Common.{◌≡◌, ◌<◌, length, map, take, drop}
 use Rattle.std.specs.List.{All, list_all}
 use Rattle.ooo_sim.specs.Names.{has_name, function_names}
-use Rattle.ooo_sim.specs.Walker.{body_at}
-use Rattle.ooo_sim.specs.Threads.{body_named}
+use Rattle.ooo_meaning.specs.Walker.{body_at}
+use Rattle.ooo_meaning.specs.Threads.{body_named}
 use Rattle.ooo_sim.proofs.names.resolve.Given as goal
 
 abbrev pub invariant-loop-thread : goal.invariant-loop-thread

@@ -1,7 +1,7 @@
 use Rattle.std.proofs.Common.{sym, ◌∙◌, subst}
 use Rattle.std.proofs.lemmas.Bool.{false≢true}
-use Rattle.ooo_sim.specs.Fitting.{FitsAmount}
-use Rattle.ooo_sim.specs.declared.model.Amount.{Amount}
+use Rattle.ooo_meaning.specs.Fitting.{FitsAmount}
+use Rattle.ooo_meaning.specs.declared.model.Amount.{Amount}
 use Rattle.ooo_sim.proofs.Amounts.{same_amount, count_below}
 use Rattle.ooo_sim.proofs.form.amount.amount_of.Goals as goal
 

@@ -1,5 +1,5 @@
 use Rattle.std.proofs.Common.{◌≡◌, ◌++◌, length}
-use Rattle.ooo_sim.specs.Fitting.{FitFunctions}
+use Rattle.ooo_meaning.specs.Fitting.{FitFunctions}
 use Rattle.ooo_sim.specs.Spelling.{spell_functions}
 use Rattle.ooo_sim.proofs.form.lexemes.Lexemes.functions.Given as goal
 

@@ -1,5 +1,5 @@
 use Rattle.ooo_sim.specs.declared.mark.Mark.TheVariants as mark
-use Rattle.ooo_sim.specs.Fitting.{FitsStatement}
+use Rattle.ooo_meaning.specs.Fitting.{FitsStatement}
 use Rattle.ooo_sim.specs.Marks.{lexeme_of}
 use Rattle.ooo_sim.specs.Spelling.{spell_statement}
 use Rattle.ooo_sim.proofs.Clear.{statement_clear, statement_apart}

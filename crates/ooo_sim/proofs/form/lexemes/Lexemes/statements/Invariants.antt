@@ -1,5 +1,5 @@
 use Rattle.std.proofs.Common.{◌≡◌, ◌++◌, length}
-use Rattle.ooo_sim.specs.Fitting.{FitStatements}
+use Rattle.ooo_meaning.specs.Fitting.{FitStatements}
 use Rattle.ooo_sim.specs.Spelling.{spell_statements}
 use Rattle.ooo_sim.proofs.form.lexemes.Lexemes.statements.Given as goal
 

@@ -1,0 +1,5 @@
+pub mod Fits
+pub mod Activations
+pub mod Turns
+pub mod Cycles
+pub mod OneRun
