@@ -8,6 +8,8 @@ pub mod law;
 mod model;
 mod report;
 mod run;
+#[cfg(test)]
+mod tests;
 mod walker;
 
 pub use model::{Amount, Bytes, Function, Item, Statement, ThreadModel};
