@@ -10,10 +10,10 @@ use Rattle.ooo_lexer.specs.declared.error.LexError.TheVariants as error
 use Rattle.ooo_lexer.specs.declared.flaw.Breach.TheVariants as breach
 use Rattle.ooo_lexer.specs.declared.heads.PieceKind.TheVariants as piece
 use Rattle.ooo_lexer.specs.Breaches.{comment_not_closed}
-use Rattle.ooo_lexer.specs.Bytes.{is_line_byte}
+use Rattle.ooo_lexer.specs.Bytes.{is_line_byte, StopsBefore}
 use Rattle.ooo_lexer.specs.Forms.{HasNoEnd}
 use Rattle.ooo_lexer.specs.Heads.{flaw, head, close_at, block_head, mark_head}
-use Rattle.ooo_lexer.specs.Pieces.{Comment, StopsBefore}
+use Rattle.ooo_lexer.specs.Pieces.{Comment}
 use Rattle.ooo_lexer.specs.Places.{position_after}
 use Rattle.ooo_lexer.specs.Runs.{has, begins_with}
 use Rattle.ooo_lexer.proofs.Finds.{First, Finds, begins_is}

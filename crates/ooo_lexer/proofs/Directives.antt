@@ -16,10 +16,10 @@ use Rattle.ooo_lexer.specs.declared.flaw.Flaw.{Flaw}
 use Rattle.ooo_lexer.specs.declared.heads.Head.{Head}
 use Rattle.ooo_lexer.specs.declared.heads.PieceKind.TheVariants as piece
 use Rattle.ooo_lexer.specs.Breaches.{directive}
-use Rattle.ooo_lexer.specs.Bytes.{is_blank, is_line_byte}
+use Rattle.ooo_lexer.specs.Bytes.{is_blank, is_line_byte, StopsBefore}
 use Rattle.ooo_lexer.specs.Forms.{headers, IsLineComment, IsDirective}
 use Rattle.ooo_lexer.specs.Heads.{flaw, head, header_length, is_note, ends_header, is_include, directive_head}
-use Rattle.ooo_lexer.specs.Pieces.{Directive, StopsBefore}
+use Rattle.ooo_lexer.specs.Pieces.{Directive}
 use Rattle.ooo_lexer.specs.Places.{position_after}
 use Rattle.ooo_lexer.specs.Runs.{after_run, is_nothing}
 use Rattle.ooo_lexer.proofs.Classes.{blank_is_on_line}

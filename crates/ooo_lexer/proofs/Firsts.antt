@@ -18,12 +18,12 @@ use Rattle.ooo_lexer.specs.declared.numbers.Number.{Number}
 use Rattle.ooo_lexer.specs.declared.token.TokenKind.{TokenKind}
 use Rattle.ooo_lexer.specs.declared.token.TokenKind.TheVariants as kind
 use Rattle.ooo_lexer.specs.Breaches.{BeginsNothing, IsBadNumber, IsBreach, bad_byte, bad_escape, text_not_closed, number_too_wide, bad_number, comment_not_closed, directive}
-use Rattle.ooo_lexer.specs.Bytes.{is_space, is_digit, begins_word, is_word_byte, is_line_byte}
+use Rattle.ooo_lexer.specs.Bytes.{is_space, is_digit, begins_word, is_word_byte, is_line_byte, StopsBefore}
 use Rattle.ooo_lexer.specs.Forms.{IsWord, IsSign, IsLineComment, IsBlockComment, IsDirective, HasNoEnd}
 use Rattle.ooo_lexer.specs.Heads.{head, flaw, error_of, error_at, block_head, close_at, head_of_number, text_head, directive_head, mark_head, head_at, head_of}
 use Rattle.ooo_lexer.specs.Numbers.{IsNumeral, IsNumber}
 use Rattle.ooo_lexer.specs.Numerals.{number_of}
-use Rattle.ooo_lexer.specs.Pieces.{Piece, Space, Comment, Directive, Kept, bytes_of, IsOfKind, StopsBefore, IsLongestSign, IsLongest, StandsBefore}
+use Rattle.ooo_lexer.specs.Pieces.{Piece, Space, Comment, Directive, Kept, bytes_of, IsOfKind, IsLongestSign, IsLongest, StandsBefore}
 use Rattle.ooo_lexer.specs.Places.{position_after}
 use Rattle.ooo_lexer.specs.Runs.{has, begins_with}
 use Rattle.ooo_lexer.specs.Texts.{Part, Stray, written_part, written, AreParts, HasNoStray, IsText, EndsLine}

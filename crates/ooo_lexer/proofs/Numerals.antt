@@ -17,10 +17,9 @@ use Rattle.ooo_lexer.specs.declared.numbers.Suffix.{Suffix}
 use Rattle.ooo_lexer.specs.declared.numbers.Suffix.TheVariants as suffix
 use Rattle.ooo_lexer.specs.declared.numbers.NumberKind.{NumberKind}
 use Rattle.ooo_lexer.specs.declared.numbers.Number.{Number}
-use Rattle.ooo_lexer.specs.Bytes.{is_digit, is_hex_digit, is_word_byte}
+use Rattle.ooo_lexer.specs.Bytes.{is_digit, is_hex_digit, is_word_byte, StopsBefore}
 use Rattle.ooo_lexer.specs.Numbers.{AreDigits, prefixes, endings, IsNumeral, value_of, kinds_of, first_holding, IsNumberOf, IsTooWide, IsNoNumeral}
 use Rattle.ooo_lexer.specs.Numerals.{has_hex_prefix, class_of, are_digits, is_ending, suffix_of, sized, number_with, number_after, number_of}
-use Rattle.ooo_lexer.specs.Pieces.{StopsBefore}
 use Rattle.ooo_lexer.specs.Runs.{has, after_run, is_nothing}
 use Rattle.ooo_lexer.proofs.Classes.{digit_goes_on}
 use Rattle.ooo_lexer.proofs.Finds.{by_test, passes_each, nothing_is, same_bytes}

@@ -6,7 +6,7 @@ use Rattle.std.proofs.lemmas.List.{take_at, drop_at, take-append-drop}
 use Rattle.std.proofs.lemmas.List.Folds.{list_all-append}
 use Rattle.std.proofs.lemmas.List.Sums.{take_while-cons}
 use Rattle.std.proofs.Math.Numerals.{one-add}
-use Rattle.ooo_lexer.specs.Pieces.{StopsBefore}
+use Rattle.ooo_lexer.specs.Bytes.{StopsBefore}
 
 pub run_length : (p : ℕ → Bool) (xs rest : List ℕ) → list_all p xs ≡ true → StopsBefore p rest → prefix_len p (xs ++ rest) ≡ length xs
 run_length p [] [] all stops = refl

@@ -3,11 +3,11 @@ use Rattle.std.specs.Prelude.{◌≡◌, ◌≢◌, ℕ, false, List, [], ◌∷
 use Rattle.std.specs.List.{list_all}
 use Rattle.ooo_lexer.specs.declared.error.LexError.{LexError}
 use Rattle.ooo_lexer.specs.declared.error.LexError.TheVariants as error
-use Rattle.ooo_lexer.specs.Bytes.{is_space, is_digit, is_word_byte, is_line_byte}
+use Rattle.ooo_lexer.specs.Bytes.{is_space, is_digit, is_word_byte, is_line_byte, StopsBefore}
 use Rattle.ooo_lexer.specs.Forms.{IsSign, HasNoEnd, IsDirective}
 use Rattle.ooo_lexer.specs.Numbers.{IsTooWide, IsNoNumeral}
 use Rattle.ooo_lexer.specs.Texts.{Part, Stray, written, AreParts, HasNoStray, EndsLine}
-use Rattle.ooo_lexer.specs.Pieces.{Piece, StopsBefore, joined, EachStands}
+use Rattle.ooo_lexer.specs.Pieces.{Piece, joined, EachStands}
 use Rattle.ooo_lexer.specs.Places.{position_after}
 
 -- the first byte is no space, no letter, digit or `_`, no double quote and no `#`, and it begins no sign

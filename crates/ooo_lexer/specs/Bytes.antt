@@ -1,5 +1,5 @@
--- Classes of bytes, each a test. Letters and digits are those of the basic source character set (ISO/IEC 14882, [lex.charset]).
-use Rattle.std.specs.Prelude.{ℕ, Bool, not, ◌||◌, ◌&&◌, ◌==◌, nat_le}
+-- Classes of bytes, each a test, and where a run of a class ends. Letters and digits are those of the basic source character set (ISO/IEC 14882, [lex.charset]).
+use Rattle.std.specs.Prelude.{◌≡◌, ℕ, Bool, false, List, [], ◌∷◌, not, ◌||◌, ◌&&◌, ◌==◌, nat_le}
 
 -- a tab, a line feed, a carriage return or a blank: what parts tokens ([lex.token])
 abbrev pub is_space : ℕ → Bool
@@ -40,3 +40,8 @@ ends_line b = b == 10 || b == 13
 -- any byte but a line feed: what stands on a line
 abbrev pub is_line_byte : ℕ → Bool
 is_line_byte b = not (b == 10)
+
+-- nothing follows, or a byte that fails the test
+abbrev pub StopsBefore : (ℕ → Bool) → List ℕ → Type 0
+StopsBefore test [] = Unit {0}
+StopsBefore test (b ∷ bs) = test b ≡ false

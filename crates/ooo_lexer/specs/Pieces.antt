@@ -1,8 +1,8 @@
 -- The cutting of a source into pieces by the longest fit, as a relation on the whole source (ISO/IEC 14882, [lex.pptoken]).
-use Rattle.std.specs.Prelude.{◌≡◌, ℕ, ◌≤◌, Bool, false, List, [], ◌∷◌, ◌++◌, ◌⊎◌, IsTrue, Contains, length}
+use Rattle.std.specs.Prelude.{◌≡◌, ℕ, ◌≤◌, List, [], ◌∷◌, ◌++◌, ◌⊎◌, IsTrue, Contains, length}
 use Rattle.ooo_lexer.specs.declared.token.TokenKind.{TokenKind}
 use Rattle.ooo_lexer.specs.declared.token.TokenKind.TheVariants as kind
-use Rattle.ooo_lexer.specs.Bytes.{is_space, is_word_byte, is_line_byte}
+use Rattle.ooo_lexer.specs.Bytes.{is_space, is_word_byte, is_line_byte, StopsBefore}
 use Rattle.ooo_lexer.specs.Forms.{IsWord, IsSign, signs, comment_marks, IsLineComment, IsBlockComment, IsDirective}
 use Rattle.ooo_lexer.specs.Numbers.{IsNumber}
 use Rattle.ooo_lexer.specs.Texts.{IsText}
@@ -32,11 +32,6 @@ IsOfKind kind.Word bs = IsWord bs
 IsOfKind kind.Number bs = IsNumber bs
 IsOfKind kind.Text bs = IsText bs
 IsOfKind kind.Sign bs = IsSign bs
-
--- nothing follows, or a byte that fails the test
-abbrev pub StopsBefore : (ℕ → Bool) → List ℕ → Type 0
-StopsBefore test [] = Unit {0}
-StopsBefore test (b ∷ bs) = test b ≡ false
 
 -- nothing longer stands where this sign does: no longer sign, and nothing that begins a comment
 abbrev pub IsLongestSign : List ℕ → List ℕ → Type 0

@@ -1,7 +1,7 @@
 -- What stands in a text, and what it means (ISO/IEC 14882, [lex.string] and [lex.ccon]).
 use Rattle.std.specs.Prelude.{◌≡◌, ℕ, Bool, true, false, not, ◌==◌, if◌then◌else◌, List, [], ◌∷◌, ◌++◌, IsTrue}
 use Rattle.std.specs.List.{list_all}
-use Rattle.ooo_lexer.specs.Bytes.{is_text_byte, is_escape, ends_line}
+use Rattle.ooo_lexer.specs.Bytes.{is_text_byte, is_escape, ends_line, StopsBefore}
 
 -- what a text is made of: a byte, an escape by what follows its backslash, or a backslash that begins no escape
 pub data Part : Type 0 where
@@ -32,8 +32,7 @@ HasNoStray parts = IsTrue (list_all (λ p. not (is_stray p)) parts)
 abbrev pub MayStand : Part → List ℕ → Type 0
 MayStand (Byte b) rest = IsTrue (is_text_byte b)
 MayStand (Escape b) rest = IsTrue (is_escape b)
-MayStand Stray [] = Unit {0}
-MayStand Stray (b ∷ rest) = is_escape b ≡ false
+MayStand Stray rest = StopsBefore is_escape rest
 
 -- each part may stand before those that follow it and the rest
 abbrev pub AreParts : List Part → List ℕ → Type 0
