@@ -32,6 +32,7 @@ activated time k body before i output j s a so_far lt e is fits k-is =
       printed = sym (so_far.printed ∙ ap (λ o. output ++ o.deed.output) here ∙ append-nil output);
       due = sym (ap (due_of (stamp_at time)) (so_far.left ∙ ap (λ o. o.deed.left) here) ∙ ap Some (rw k-is (stamp_after-later time (time_in a) fits.some)));
       place = sym (so_far.next ∙ ap (λ o. o.next) here);
+      later = let some : 1 ≤ k.0 = rw k-is fits.some in omega arith;
     }
 
 -- the world after a process's turn

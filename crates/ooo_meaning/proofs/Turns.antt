@@ -1,16 +1,15 @@
 -- The evaluation of a cycle, one process after another.
-use Rattle.std.proofs.Common.{◌≡◌, ℕ, suc, ◌+◌, ◌<◌, ◌≤◌, List, [], ◌∷◌, ◌++◌, Bool, Some, true, false, length, get_or, map, set, take, drop, refl, sym, ap, ◌∙◌, arith, add-one, drop-cons, append_assoc, take-suc-set, drop-set-lt, take_all, drop_of_length-le, append-nil}
+use Rattle.std.proofs.Common.{◌≡◌, ℕ, suc, ◌+◌, ◌<◌, ◌≤◌, List, [], ◌∷◌, ◌++◌, Some, true, false, length, get_or, map, set, take, drop, refl, sym, ap, ◌∙◌, arith, add-one, drop-cons, append_assoc, add-zero, zero, take-suc-set, drop-set-lt, take_all, drop_of_length-le, append-nil}
 use Rattle.std.proofs.Math.Seq.{take-suc}
 use Rattle.std.proofs.lemmas.Option.{slice_get-map, slice_get-get_or, slice_get_read}
 use Rattle.std.specs.Prelude.{slice_get, option_map}
 use Rattle.ooo_meaning.specs.declared.model.Function.{Function}
 use Rattle.ooo_meaning.specs.declared.model.Statement.{Statement}
-use Rattle.ooo_meaning.specs.declared.walker.Paused.{Paused}
 use Rattle.ooo_meaning.specs.declared.walker.Walker.{Walker}
-use Rattle.ooo_meaning.specs.World.{World, view_of, after_deed, runs_now, is_due}
+use Rattle.ooo_meaning.specs.World.{World, view_of, after_deed, runs_now}
 use Rattle.ooo_meaning.specs.Sequence.{Activate, State, put_front, evaluate}
 use Rattle.ooo_meaning.specs.Threads.{activate, act, body_of}
-use Rattle.ooo_meaning.specs.Walker.{body_at, body_found, stamp_at, due_stamp, due_in, world_of, places_of, state_of, onto, from_process, taken, Turned}
+use Rattle.ooo_meaning.specs.Walker.{body_at, body_found, world_of, places_of, state_of, onto, from_process, taken, Turned}
 
 module _ (activate : Activate ℕ) where
   -- the first of what remains has its turn
@@ -46,11 +45,13 @@ module _ (activate : Activate ℕ) where
   unfolding evaluate
   all_passed p ks w le = rw (drop_of_length-le ks {i = p} le, take_all p ks le) (ap (state_of w) (append-nil ks))
 
--- whether a process is runnable, as the walker tests it
-pub runs_at : (w : Walker) (p : ℕ) (x : Paused) (b : Bool) → p < length w.processes.items → x ≡ get_or w.processes.items p x → b ≡ is_due (stamp_at w.time) (Some (due_stamp x.due)) → runs_now p (world_of w) ≡ b
-unfolding runs_now
-runs_at w p x b lt e f =
-    ap (is_due (stamp_at w.time)) (slice_get-map due_in w.processes.items p ∙ ap (option_map due_in) (slice_get_read w.processes.items (length w.processes.items) p x refl lt e)) ∙ sym f
+  -- the next n are not runnable
+  pub skips : (p n : ℕ) (ks : List ℕ) (w : World) → p + n ≤ length ks → ((i : ℕ) → p ≤ i → i < p + n → runs_now i w ≡ false) → onto (take p ks) (evaluate activate p w (drop p ks)) ≡ onto (take (p + n) ks) (evaluate activate (p + n) w (drop (p + n) ks))
+  skips p zero ks w le h = rw add-zero refl
+  skips p (suc n) ks w le h =
+      skips p n ks w (omega arith) (λ i from below. h i from (omega arith))
+      ∙ one_skips (p + n) ks w (omega arith) (h (p + n) (omega arith) (omega arith))
+      ∙ ap (λ i. onto (take i ks) (evaluate activate i w (drop i ks))) (let e : p + n + 1 ≡ p + suc n = omega arith in e)
 
 -- the body that a process runs
 pub body_is : (fs : List Function) (processes : List ℕ) (p : ℕ) (f : Function) → p < length processes → get_or processes p 0 < length fs → f ≡ get_or fs (get_or processes p 0) f → slice_get (map (body_at fs) processes) p ≡ Some f.body

@@ -1,15 +1,15 @@
-ghost use Rattle.std.specs.Prelude.{◌≡◌, ◌+◌, ◌<◌, ◌≤◌, ◌∷◌, ◌++◌, ◌⊎◌, length, map, OnOk, IfOk, IfSome, All};
+ghost use Rattle.std.specs.Prelude.{◌≡◌, ◌+◌, ◌<◌, ◌≤◌, ◌∷◌, ◌++◌, length, map, OnOk, IfOk, IfSome, IfNone, All};
 ghost use Rattle.ooo_time.specs.Scales.{greatest_time};
 ghost use Rattle.ooo_meaning.specs.Fitting.{FitStatements, FitFunctions};
-ghost use Rattle.ooo_meaning.specs.World.{is_due, if_later, sooner, next_due};
 ghost use Rattle.ooo_meaning.specs.Threads.{item_text, items_text, IsThreadRun};
-ghost use Rattle.ooo_meaning.specs.Walker.{body_at, result_of, stamp_at, due_stamp, due_in, Activated, Turned, Passed, Evaluated, Cycled};
+ghost use Rattle.ooo_meaning.specs.Walker.{body_at, result_of, due_stamp, due_cmp, queued, first_stamp, IsFrom, IsReady, IsFirstQueue, TakesDue, TakesNone, Activated, Turned, Evaluated, Cycled};
 
 use crate::model::{Function, Item, Statement};
 use crate::run::{End, Run};
 use ooo_lexer::unescape;
 use ooo_time::{Stamp, Time, append};
 use std::alloc::{AllocError, Global};
+use std::collections::BTreeSet;
 
 /// A process between two activations: the number of statements of its body that it has passed, and the time at
 /// which it is due, or none where it never runs again.
@@ -19,12 +19,20 @@ struct Paused {
     due: Option<Time>,
 }
 
-/// A run between two cycles: the present time, the processes by their numbers, what was printed, and the time of
-/// the last activation.
+/// A process by its number, and the time at which it is due. The least is the next to run.
+#[derive(Clone, Copy, Debug, PartialEq, Eq, PartialOrd, Ord)]
+struct Due {
+    time: Time,
+    process: usize,
+}
+
+/// A run between two cycles: the present time, the processes by their numbers, the queue of those that are due some
+/// time, what was printed, and the time of the last activation.
 #[derive(Debug, Drop)]
 struct Walker {
     time: Time,
     processes: Vec<Paused>,
+    queue: BTreeSet<Due>,
     output: Vec<u8>,
     last: Time,
 }
@@ -53,6 +61,7 @@ pub fn run_threads(
     let mut walker = Walker {
         time: Time::ZERO,
         processes: vec![in alloc; start; processes.len()]?,
+        queue: first_queue(alloc, processes.len())?,
         output: Vec::new(alloc),
         last: Time::ZERO,
     };
@@ -78,10 +87,11 @@ impl Walker {
         requires known { All (λ i. i < length functions.now) processes.now }
         requires fits { FitFunctions functions.now }
         requires time { self.old.time.0 ≤ greatest_time }
+        requires ready { IsReady 0 self.old }
         ensures { IfOk result (λ end. Cycled (map (body_at functions.now) processes.now) stop end self.old self.new) }
     {
         self.evaluate(functions, processes)?;
-        let Some(next) = next_due(self.time, &self.processes) else {
+        let Some(next) = self.next_due() else {
             return Ok(Some(End::Idle(Stamp {
                 time: self.last,
                 delta: 0,
@@ -100,33 +110,35 @@ impl Walker {
         requires known { All (λ i. i < length functions.now) processes.now }
         requires fits { FitFunctions functions.now }
         requires time { self.old.time.0 ≤ greatest_time }
+        requires ready { IsReady 0 self.old }
         ensures { OnOk result (Evaluated (map (body_at functions.now) processes.now) self.old self.new) }
     {
-        for process in 0..processes.len() {
-            self.pass(functions, processes, process)?;
+        'turns: loop {
+            let Some(process) = self.take_due() else {
+                return Ok(());
+            };
+            self.turn(functions[processes[process]].body.as_slice(), process)?;
         }
-        Ok(())
     }
 
-    /// A process has its turn, if it is runnable.
-    fn pass(
-        &mut self,
-        functions: &[Function],
-        processes: &[usize],
-        process: usize,
-    ) -> Result<(), AllocError>
-        requires process { process < length processes.now }
-        requires count { length self.old.processes.items ≡ length processes.now }
-        requires known { All (λ i. i < length functions.now) processes.now }
-        requires fits { FitFunctions functions.now }
-        requires time { self.old.time.0 ≤ greatest_time }
-        ensures { OnOk result (Passed (map (body_at functions.now) processes.now) process self.old self.new) }
+    /// Takes off the queue the runnable process of the lowest number.
+    fn take_due(&mut self) -> Option<usize>
+        ensures taken { IfSome result (λ process. TakesDue process self.old self.new) }
+        ensures none { IfNone result (TakesNone self.old self.new) }
     {
-        if !is_due(self.time, self.processes[process].due) {
-            return Ok(());
+        let first = self.queue.first()?;
+        if first.time.0 > self.time.0 {
+            return None;
         }
-        self.turn(functions[processes[process]].body.as_slice(), process)?;
-        Ok(())
+        Some(self.queue.pop_first()?.process)
+    }
+
+    /// The earliest time at which a process is due.
+    fn next_due(&self) -> Option<Time>
+        ensures first { due_stamp result ≡ first_stamp self.now.queue.keys }
+        ensures all_from { IfSome result (λ time. All (IsFrom time.0 0) self.now.queue.keys) }
+    {
+        Some(self.queue.first()?.time)
     }
 
     /// A process with this body runs up to its next wait, or to its end.
@@ -137,20 +149,34 @@ impl Walker {
         ensures { OnOk result (Turned body.now process self.old self.new) }
     {
         let place = self.processes[process].place;
-        self.processes[process] = activate(&mut self.output, self.time, body, place)?;
+        let left = activate(&mut self.output, self.time, body, place)?;
+        self.processes[process] = left;
+        enqueue(&mut self.queue, process, left.due)?;
         self.last = self.time;
         Ok(())
     }
 }
 
-/// Whether a process that is due then runs now.
-fn is_due(now: Time, due: Option<Time>) -> bool
-    ensures { result ≡ is_due (stamp_at now) (Some (due_stamp due)) }
+/// The queue at the start, where each of so many processes is due at time zero.
+#[tactic(auto, using(crate::proofs::Queue::inserted))]
+fn first_queue(alloc: Global, count: usize) -> Result<BTreeSet<Due>, AllocError>
+    ensures { IfOk result (λ queue. IsFirstQueue count queue.keys) }
 {
-    match due {
-        None => false,
-        Some(time) => now.0 == time.0,
+    let mut queue = BTreeSet::new(alloc);
+    for process in 0..count {
+        enqueue(&mut queue, process, Some(Time::ZERO))?;
     }
+    Ok(queue)
+}
+
+/// Puts a process into the queue for the time at which it is due, if it is.
+fn enqueue(queue: &mut BTreeSet<Due>, process: usize, due: Option<Time>) -> Result<(), AllocError>
+    ensures { OnOk result (queue.new.keys ≡ queued queue.old.keys process due) }
+{
+    if let Some(time) = due {
+        queue.insert(Due { time, process })?;
+    }
+    Ok(())
 }
 
 /// Runs a process's statements from this place on, up to its next wait or to its end.
@@ -208,36 +234,4 @@ fn print(output: &mut Vec<u8>, now: Time, item: &Item) -> Result<(), AllocError>
         Item::TimeStamp => append(output, now)?,
     }
     Ok(())
-}
-
-/// The earliest time after this one at which a process is due.
-fn next_due(now: Time, processes: &[Paused]) -> Option<Time>
-    ensures stamp { due_stamp result ≡ next_due (stamp_at now) (map due_in processes.now) }
-    ensures later { IfSome result (λ time. now.0 < time.0) }
-{
-    let mut found = None;
-    let mut left = processes.len();
-    'processes: while left > 0 {
-        left -= 1;
-        found = sooner(if_later(now, processes[left].due), found);
-    }
-    found
-}
-
-fn if_later(now: Time, due: Option<Time>) -> Option<Time>
-    ensures stamp { due_stamp result ≡ if_later (stamp_at now) (due_stamp due) }
-    ensures later { IfSome result (λ time. now.0 < time.0) }
-{
-    due.filter(|time| now.0 < time.0)
-}
-
-fn sooner(a: Option<Time>, b: Option<Time>) -> Option<Time>
-    ensures stamp { due_stamp result ≡ sooner (due_stamp a) (due_stamp b) }
-    ensures one { (result ≡ a) ⊎ (result ≡ b) }
-{
-    match (a, b) {
-        (None, _) => b,
-        (_, None) => a,
-        (Some(x), Some(y)) => { if y.0 < x.0 { b } else { a } }
-    }
 }

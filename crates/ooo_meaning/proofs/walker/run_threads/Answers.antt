@@ -4,6 +4,7 @@ use Rattle.ooo_meaning.specs.Sequence.{IsRun}
 use Rattle.ooo_meaning.specs.Threads.{activate}
 use Rattle.ooo_meaning.specs.Walker.{body_at}
 use Rattle.ooo_meaning.proofs.Cycles.{start_is}
+use Rattle.ooo_meaning.proofs.Queue.{exact_first, from_zero}
 use Rattle.ooo_meaning.proofs.walker.run_threads.Goals as goal
 
 pub cycles-init : goal.cycles-init
@@ -14,5 +15,6 @@ cycles-init c =
     record {
       count = ap length ps ∙ length-replicate _ _;
       within = omega arith;
+      ready = record { exact = exact_first c.in_ok-vec.field-0.items c.in_ok-first_queue.field-0.keys (length c.args.processes.now) _ ps refl c.in_ok-first_queue.ensures; from = from_zero c.in_ok-first_queue.field-0.keys };
       run = λ r h. subst (λ s. IsRun (activate bodies) c.args.stop s r) start h;
     }

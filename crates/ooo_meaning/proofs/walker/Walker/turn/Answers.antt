@@ -8,11 +8,15 @@ use Rattle.ooo_meaning.proofs.walker.Walker.turn.Goals as goal
 pub returns : goal.returns
 returns c =
     let w = c.args.self.now in
-    let left = c.in_ok-self.field-0 in
+    let left = c.in_ok-left.left in
     let place = place_read w.processes.items c.args.process c.index.result.now c.requires.process c.index.ensures in
-    let done : Activated w.time c.args.body.now (slice_index (places_of w) c.args.process) w.output.items c.activate.new.output.items left = subst (λ i. Activated w.time c.args.body.now i w.output.items c.activate.new.output.items left) place c.in_ok-self.ensures in
+    let done : Activated w.time c.args.body.now (slice_index (places_of w) c.args.process) w.output.items c.activate.new.output.items left = subst (λ i. Activated w.time c.args.body.now i w.output.items c.activate.new.output.items left) place c.in_ok-left.ensures in
     record {
       world = world_after w c.args.body.now c.args.process left c.activate.new.output.items done;
       places = map-set place_in w.processes.items c.args.process left ∙ ap (set (places_of w) c.args.process) done.place;
       time = refl;
+      left = left;
+      later = done.later;
+      processes = refl;
+      queue = c.in_ok-enqueue.ensures;
     }
