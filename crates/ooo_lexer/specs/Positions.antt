@@ -27,9 +27,9 @@ token_after before l = record {
 }
 
 -- the tokens of pieces that stand after these bytes: spaces, comments and directives give none
-abbrev pub placed : List ℕ → List Piece → List Token
-placed before [] = []
-placed before (Space b ∷ ps) = placed (before ++ b ∷ []) ps
-placed before (Comment bs ∷ ps) = placed (before ++ bs) ps
-placed before (Directive bs ∷ ps) = placed (before ++ bs) ps
-placed before (Kept l ∷ ps) = token_after before l ∷ placed (before ++ l.bytes) ps
+abbrev pub tokens_after : List ℕ → List Piece → List Token
+tokens_after before [] = []
+tokens_after before (Space b ∷ ps) = tokens_after (before ++ b ∷ []) ps
+tokens_after before (Comment bs ∷ ps) = tokens_after (before ++ bs) ps
+tokens_after before (Directive bs ∷ ps) = tokens_after (before ++ bs) ps
+tokens_after before (Kept l ∷ ps) = token_after before l ∷ tokens_after (before ++ l.bytes) ps

@@ -1,12 +1,12 @@
 ghost use Rattle.std.specs.Prelude.{◌≡◌, ◌+◌, ◌<◌, ◌^◌, length};
-ghost use Rattle.ooo_lexer.specs.Steps.{place_after_byte, place_after, position_of};
+ghost use Rattle.ooo_lexer.specs.Steps.{cursor_after_byte, cursor_after, position_of};
 
 use crate::position::Position;
 
-/// A place in a source.
+/// How far a source has been read: a position, and the bytes before it.
 #[derive(Clone, Copy)]
-pub(crate) struct Place {
-    /// The bytes before it.
+pub(crate) struct Cursor {
+    /// How many bytes stand before it.
     pub(crate) start: u32,
     /// Its line, from 1.
     pub(crate) line: u32,
@@ -14,9 +14,9 @@ pub(crate) struct Place {
     pub(crate) column: u32,
 }
 
-impl Place {
-    /// The first place of a source.
-    pub(crate) const FIRST: Place = Place {
+impl Cursor {
+    /// Where a source begins.
+    pub(crate) const FIRST: Cursor = Cursor {
         start: 0,
         line: 1,
         column: 1,
@@ -31,35 +31,35 @@ impl Place {
         }
     }
 
-    /// The place after these bytes.
-    pub(crate) fn after(self, bytes: &[u8]) -> Place
+    /// The cursor after these bytes.
+    pub(crate) fn after(self, bytes: &[u8]) -> Cursor
         requires start_fits { self.start + length bytes.now < 2 ^ 32 }
         requires line_fits { self.line + length bytes.now < 2 ^ 32 }
         requires column_fits { self.column + length bytes.now < 2 ^ 32 }
-        ensures { result ≡ place_after self bytes.now }
+        ensures { result ≡ cursor_after self bytes.now }
     {
-        let mut place = self;
+        let mut cursor = self;
         for byte in bytes {
-            place = place.after_byte(*byte);
+            cursor = cursor.after_byte(*byte);
         }
-        place
+        cursor
     }
 
-    fn after_byte(self, byte: u8) -> Place
+    fn after_byte(self, byte: u8) -> Cursor
         requires start_fits { self.start + 1 < 2 ^ 32 }
         requires line_fits { self.line + 1 < 2 ^ 32 }
         requires column_fits { self.column + 1 < 2 ^ 32 }
-        ensures { result ≡ place_after_byte self byte }
+        ensures { result ≡ cursor_after_byte self byte }
     {
         let start = self.start + 1;
         if byte == b'\n' {
-            Place {
+            Cursor {
                 start,
                 line: self.line + 1,
                 column: 1,
             }
         } else {
-            Place {
+            Cursor {
                 start,
                 line: self.line,
                 column: self.column + 1,
