@@ -11,4 +11,3 @@ pub mod Threads
 pub mod Walker
 pub mod Ready
 pub mod Laws
-pub mod Report
