@@ -12,7 +12,6 @@ mod mark;
 mod model;
 mod names;
 mod ready;
-mod reserved;
 mod run;
 #[cfg(test)]
 mod tests;
