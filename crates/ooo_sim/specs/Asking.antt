@@ -5,9 +5,9 @@ use Rattle.ooo_time.specs.declared.time.Time.{Time}
 use Rattle.ooo_time.specs.Scales.{greatest_time}
 use Rattle.ooo_words.specs.declared.command.Command.{Command}
 use Rattle.ooo_words.specs.declared.command.Command.TheVariants as command
-use Rattle.ooo_words.specs.declared.command.WordsError.{WordsError}
+use Rattle.ooo_words.specs.declared.refused.WordsError.{WordsError}
 use Rattle.ooo_words.specs.Reading.{reading}
-use Rattle.ooo_words.specs.Refusal.{refusal_line}
+use Rattle.ooo_words.specs.Refused.{refusal_line}
 use Rattle.ooo_sim.specs.declared.asked.Asked.{Asked}
 use Rattle.ooo_sim.specs.declared.asked.Asked.TheVariants as asked
 
