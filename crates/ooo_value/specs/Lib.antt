@@ -3,3 +3,5 @@ pub mod Values
 pub mod Operators
 pub mod Pairs
 pub mod Faults
+pub mod ValueText
+pub mod FaultNames

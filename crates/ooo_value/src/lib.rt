@@ -1,6 +1,6 @@
 //! The five kinds of values of the simulated language and their arithmetic, as C++ means it on a
 //! machine of two's complement with an `int` of 32 and a `long long` of 64 bits. Small types of a
-//! model's parts stand here too, for the crates above. Nothing here takes memory.
+//! model's parts stand here too, for the crates above. Only `append`, which prints a value, takes memory.
 #![tactic(auto)]
 
 mod arithmetic;
@@ -8,12 +8,14 @@ mod bits;
 mod bound;
 mod comparisons;
 mod division;
+mod fault_names;
 mod kinds;
 pub mod law;
 mod naming;
 mod operators;
 mod pairs;
 mod shifts;
+mod text;
 mod values;
 
 pub use arithmetic::negate;
@@ -22,6 +24,7 @@ pub use bound::{BoundChannel, BoundEvent, BoundVariable, ChannelKind, ProcessKin
 pub use kinds::{Kind, common};
 pub use naming::{Name, Names};
 pub use operators::{Fault, Op, binary};
+pub use text::append;
 pub use values::{Value, convert, truth};
 
 #[cfg(test)]
