@@ -4,7 +4,7 @@ use Rattle.std.specs.List.{list_any, starts_with}
 use Rattle.ooo_threads.specs.Ready.{StopsInTime}
 use Rattle.ooo_words.specs.declared.command.Command.{Command}
 use Rattle.ooo_words.specs.declared.command.Command.TheVariants as command
-use Rattle.ooo_words.specs.declared.command.WordsError.{WordsError}
+use Rattle.ooo_words.specs.declared.refused.WordsError.{WordsError}
 use Rattle.ooo_words.specs.Reading.{reading}
 use Rattle.ooo_sim.specs.declared.request.Request.{Request}
 use Rattle.ooo_sim.specs.declared.request.Request.TheVariants as request

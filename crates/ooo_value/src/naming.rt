@@ -1,6 +1,7 @@
-ghost use Rattle.std.specs.Prelude.{◌≡◌};
+ghost use Rattle.std.specs.Prelude.{◌≡◌, IfOk};
 
 use sqlite_items::Items;
+use std::alloc::{AllocError, Global};
 use std::marker::Model;
 
 /// A name, as the bytes that spell it. Contracts see it as the list of these bytes.
@@ -21,6 +22,15 @@ impl Model for Name {
 }
 
 impl Name {
+    /// The name that a text spells: a copy of its bytes.
+    pub fn new(alloc: Global, text: &str) -> Result<Name, AllocError>
+        ensures { IfOk result (λ name. name ≡ text.now) }
+    {
+        Ok(Name {
+            bytes: Vec::from_slice(alloc, text.as_bytes())?,
+        })
+    }
+
     /// The name that these bytes spell. It takes no memory.
     pub fn from_bytes(bytes: Vec<u8>) -> Name
         ensures { result ≡ bytes.items }

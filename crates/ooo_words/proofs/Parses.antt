@@ -17,8 +17,8 @@ use Rattle.clap.specs.Walk.{Step, idle, long_met, long_or_other, more_values, ne
 use Rattle.clap.specs.declared.builder.action.ArgAction.TheVariants.{Set}
 use Rattle.clap.specs.declared.builder.value_parser.ValueParser.TheVariants as vp
 use Rattle.clap.specs.declared.parser.matches.ValueSource.TheVariants.{CommandLine}
-use Rattle.ooo_words.specs.declared.command.WordsError.{WordsError}
-use Rattle.ooo_words.specs.declared.command.WordsError.TheVariants.{BadValue, Twice}
+use Rattle.ooo_words.specs.declared.refused.WordsError.{WordsError}
+use Rattle.ooo_words.specs.declared.refused.WordsBreach.TheVariants.{BadValue, Twice}
 use Rattle.ooo_words.specs.declared.options.CommandName.{CommandName}
 use Rattle.ooo_words.specs.declared.options.CommandName.TheVariants.{Run, Plain, Check, Tables, Bench}
 use Rattle.ooo_words.specs.declared.options.OptionName.{OptionName}
@@ -26,7 +26,7 @@ use Rattle.ooo_words.specs.declared.options.OptionName.TheVariants.{Stop, Worker
 use Rattle.ooo_words.specs.Numbers.{number_within, takes_value, within}
 use Rattle.ooo_words.specs.Options.{Text, command_text, option_named, option_text, option_word, options_of}
 use Rattle.ooo_words.specs.Parser.{argument_of, parser_of}
-use Rattle.ooo_words.specs.Reading.{Setting, breach_of, breach_or, first_breach, given, is_equals, is_met, joined_setting, option_breach, settings_of, value_breach}
+use Rattle.ooo_words.specs.Reading.{Setting, breach_of, breach_or, first_breach, given, is_equals, is_met, joined_setting, option_breach, refused_with, settings_of, value_breach}
 
 -- ---- the parser as it is built
 
@@ -83,7 +83,7 @@ row_for a = record {
 abbrev pub words_for : List Answer → List Text
 words_for = map (λ a. option_word a.0)
 
-same_bytes : (text : Text) → bytes_eq text text ≡ true
+pub same_bytes : (text : Text) → bytes_eq text text ≡ true
 same_bytes text = (bytes_eq-Decides text text).1 refl
 
 -- an option is met just where it has a row
@@ -157,18 +157,18 @@ pub record Fine (command : CommandName) (earlier : List Text) (s : Setting) : Ty
   pub has : s.value ≡ Some text
   pub takes : takes_value name text ≡ true
 
-fine : (command : CommandName) (earlier : List Text) (s : Setting) → breach_of command earlier s ≡ None → Fine command earlier s
+pub fine : (command : CommandName) (earlier : List Text) (s : Setting) → breach_of command earlier s ≡ None → Fine command earlier s
 fine command earlier s none = by_name (option_named command s.option) refl none where
   by_value : (o : OptionName) → option_named command s.option ≡ Some o → is_met s.option earlier ≡ false
       → (value : Option Text) → s.value ≡ value → value_breach o s.option value ≡ None → Fine command earlier s
   by_value o named fresh None has none = absurd (cc none)
   by_value o named fresh (Some text) has none = by_test (takes_value o text) refl none where
-    by_test : (b : Bool) → takes_value o text ≡ b → cond b None (Some (BadValue s.option)) ≡ None → Fine command earlier s
+    by_test : (b : Bool) → takes_value o text ≡ b → cond b None (Some (refused_with BadValue s.option)) ≡ None → Fine command earlier s
     by_test true takes none = record { name = o; text = text; named = named; fresh = fresh; has = has; takes = takes }
     by_test false takes none = absurd (cc none)
 
   by_met : (o : OptionName) → option_named command s.option ≡ Some o → (b : Bool) → is_met s.option earlier ≡ b
-      → cond b (Some (Twice s.option)) (value_breach o s.option s.value) ≡ None → Fine command earlier s
+      → cond b (Some (refused_with Twice s.option)) (value_breach o s.option s.value) ≡ None → Fine command earlier s
   by_met o named true fresh none = absurd (cc none)
   by_met o named false fresh none = by_value o named fresh s.value refl none
 
@@ -483,7 +483,7 @@ record Follows (command : CommandName) (answers : List Answer) (s : Setting) (re
   plain : strip_byte 45 answer.1 ≡ None
   none : first_breach command (words_for (answers ++ answer ∷ [])) rest ≡ None
 
-breaches_of : (here there : Option WordsError) → breach_or here there ≡ None → (here ≡ None) × (there ≡ None)
+pub breaches_of : (here there : Option WordsError) → breach_or here there ≡ None → (here ≡ None) × (there ≡ None)
 breaches_of None there none = (refl, none)
 breaches_of (Some e) there none = absurd (cc none)
 

@@ -3,5 +3,6 @@ pub mod Numbers
 pub mod Reading
 pub mod Written
 pub mod Parser
-pub mod Refusal
+pub mod Refused
 pub mod Limits
+pub mod Laws

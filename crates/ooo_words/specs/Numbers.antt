@@ -12,6 +12,8 @@ use Rattle.ooo_time.specs.Scales.{ticks_of, unit_text, greatest_time}
 use Rattle.ooo_words.specs.declared.options.OptionName.{OptionName}
 use Rattle.ooo_words.specs.declared.options.OptionName.TheVariants.{Stop, Workers, Deltas, Statements}
 use Rattle.ooo_words.specs.declared.options.OptionName.TheVariants.{Stages, Items, Seed}
+use Rattle.ooo_words.specs.Limits.{number_digits, time_digits, most_workers, most_deltas, most_statements}
+use Rattle.ooo_words.specs.Limits.{most_stages, most_items, most_seed}
 use Rattle.ooo_words.specs.Options.{Text}
 
 -- 1 to `most` decimal digits, of which the first is no `0` (48) unless it is the only one
@@ -27,20 +29,20 @@ numeral_value most text = if is_numeral most text then Some (digits_value 10 tex
 abbrev pub within : ℕ → ℕ → ℕ → Option ℕ
 within least greatest n = if nat_le least n && nat_le n greatest then Some n else None
 
--- a number of at most 10 digits, in this range
+-- a number of a few digits, in this range
 abbrev pub number_within : ℕ → ℕ → Text → Option ℕ
-number_within least greatest text = option_and_then (within least greatest) (numeral_value 10 text)
+number_within least greatest text = option_and_then (within least greatest) (numeral_value number_digits text)
 
 -- the unit of time that a text names
 abbrev pub unit_named : Text → Option Scale
 unit_named text = find (λ unit. bytes_eq text (unit_text unit)) (Ps ∷ Ns ∷ Us ∷ Ms ∷ Sec ∷ [])
 
--- the ticks of a time: a number of at most 19 digits and then its unit, no more than the greatest time
+-- the ticks of a time: a number of a few more digits and then its unit, no more than the greatest time
 abbrev pub time_ticks : Text → Option ℕ
 time_ticks text =
     let digits = take_while is_ascii_digit text in
     option_and_then (λ n. option_and_then (λ unit. within 0 greatest_time (n * ticks_of unit))
-    (unit_named (drop (length digits) text))) (numeral_value 19 digits)
+    (unit_named (drop (length digits) text))) (numeral_value time_digits digits)
 
 -- the time that a text writes
 abbrev pub time_of : Text → Option Time
@@ -50,12 +52,12 @@ time_of text = option_map (λ (ticks : ℕ). record { 0 = ticks }) (time_ticks t
 -- takes a time
 abbrev pub number_of : OptionName → Text → Option ℕ
 number_of Stop text = None
-number_of Workers text = number_within 1 64 text
-number_of Deltas text = number_within 1 1_000_000 text
-number_of Statements text = number_within 1 1_000_000_000 text
-number_of Stages text = number_within 1 200 text
-number_of Items text = number_within 1 10_000 text
-number_of Seed text = number_within 0 4_294_967_295 text
+number_of Workers text = number_within 1 most_workers text
+number_of Deltas text = number_within 1 most_deltas text
+number_of Statements text = number_within 1 most_statements text
+number_of Stages text = number_within 1 most_stages text
+number_of Items text = number_within 1 most_items text
+number_of Seed text = number_within 0 most_seed text
 
 -- the option takes the value
 abbrev pub takes_value : OptionName → Text → Bool

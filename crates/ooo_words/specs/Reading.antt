@@ -11,9 +11,13 @@ use Rattle.ooo_words.specs.declared.options.OptionName.TheVariants.{Stop, Worker
 use Rattle.ooo_words.specs.declared.options.OptionName.TheVariants.{Stages, Items, Seed}
 use Rattle.ooo_words.specs.declared.command.Command.{Command}
 use Rattle.ooo_words.specs.declared.command.Command.TheVariants.{Run, Plain, Check, Tables, Bench}
-use Rattle.ooo_words.specs.declared.command.WordsError.{WordsError}
-use Rattle.ooo_words.specs.declared.command.WordsError.TheVariants.{NoCommand, UnknownCommand}
-use Rattle.ooo_words.specs.declared.command.WordsError.TheVariants.{UnknownOption, NoValue, BadValue, Twice}
+use Rattle.ooo_words.specs.declared.refused.WordsBreach.{WordsBreach}
+use Rattle.ooo_words.specs.declared.refused.WordsBreach.TheVariants.{NoCommand, UnknownCommand}
+use Rattle.ooo_words.specs.declared.refused.WordsBreach.TheVariants.{UnknownOption, NoValue, BadValue, Twice}
+use Rattle.ooo_words.specs.declared.refused.WordsError.{WordsError}
+use Rattle.ooo_words.specs.declared.refused.WordsError.TheVariants.{Refused}
+use Rattle.ooo_words.specs.Limits.{default_workers, default_deltas, default_statements}
+use Rattle.ooo_words.specs.Limits.{default_stages, default_items, default_seed}
 use Rattle.ooo_words.specs.Options.{Text, command_named, option_named, option_word}
 use Rattle.ooo_words.specs.Numbers.{number_of, takes_value, time_of}
 
@@ -44,20 +48,24 @@ settings_of (word ∷ next ∷ rest) =
 
 -- ---- breaches
 
+-- words are refused with this one
+abbrev pub refused_with : WordsBreach → Text → WordsError
+refused_with breach word = Refused breach (Some word)
+
 -- an earlier setting is of the option that is written so
 abbrev pub is_met : Text → List Text → Bool
 is_met option earlier = list_any (λ word. bytes_eq word option) earlier
 
 -- the breach of a value, of which the option takes only some
 abbrev pub value_breach : OptionName → Text → Option Text → Option WordsError
-value_breach option word None = Some (NoValue word)
-value_breach option word (Some value) = if takes_value option value then None else Some (BadValue word)
+value_breach option word None = Some (refused_with NoValue word)
+value_breach option word (Some value) = if takes_value option value then None else Some (refused_with BadValue word)
 
 -- the breach of a setting of this option of the command, if it is of one
 abbrev pub option_breach : List Text → Setting → Option OptionName → Option WordsError
-option_breach earlier setting None = Some (UnknownOption setting.option)
+option_breach earlier setting None = Some (refused_with UnknownOption setting.option)
 option_breach earlier setting (Some option) =
-    if is_met setting.option earlier then Some (Twice setting.option)
+    if is_met setting.option earlier then Some (refused_with Twice setting.option)
     else value_breach option setting.option setting.value
 
 -- the breach of a setting after those of the earlier options: it is of no option of the command, or of an earlier one,
@@ -93,18 +101,10 @@ number_or default settings option =
 abbrev pub stop_time : List Setting → Option Time
 stop_time settings = option_and_then time_of (given settings Stop)
 
--- the delta cycles at one time that a run may have where the words don't say
-abbrev pub default_deltas : ℕ
-default_deltas = 10_000
-
--- the statements that a run may have where the words don't say
-abbrev pub default_statements : ℕ
-default_statements = 1_000_000
-
 -- the command that settings without a breach ask for
 abbrev pub command_of : CommandName → List Setting → Command
 command_of name.Run settings =
-    Run (stop_time settings) (number_or 1 settings Workers)
+    Run (stop_time settings) (number_or default_workers settings Workers)
     (number_or default_deltas settings Deltas) (number_or default_statements settings Statements)
 command_of name.Plain settings =
     Plain (stop_time settings)
@@ -112,8 +112,8 @@ command_of name.Plain settings =
 command_of name.Check settings = Check
 command_of name.Tables settings = Tables
 command_of name.Bench settings =
-    Bench (number_or 4 settings Stages) (number_or 16 settings Items) (number_or 1 settings Seed)
-    (number_or 1 settings Workers)
+    Bench (number_or default_stages settings Stages) (number_or default_items settings Items) (number_or default_seed settings Seed)
+    (number_or default_workers settings Workers)
 
 -- the command, where there is no breach
 abbrev pub unless_breached : Option WordsError → Command → Result Command WordsError
@@ -122,11 +122,11 @@ unless_breached (Some e) command = Err e
 
 -- what a first word and the settings after it ask for, where the word names this command
 abbrev pub reading_of : Text → Option CommandName → List Setting → Result Command WordsError
-reading_of word None settings = Err (UnknownCommand word)
+reading_of word None settings = Err (refused_with UnknownCommand word)
 reading_of word (Some command) settings =
     unless_breached (first_breach command [] settings) (command_of command settings)
 
 -- the command that the words ask for, or their first breach from left to right
 abbrev pub reading : List Text → Result Command WordsError
-reading [] = Err NoCommand
+reading [] = Err (Refused NoCommand None)
 reading (word ∷ rest) = reading_of word (command_named word) (settings_of rest)

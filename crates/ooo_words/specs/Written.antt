@@ -1,8 +1,8 @@
 -- What the parts of the reader answer.
 use Rattle.std.specs.Prelude.{◌≡◌, ◌⊎◌, ℕ, List, Option, Some, option_map}
 use Rattle.std.specs.Borrow.{Bor}
-use Rattle.ooo_words.specs.declared.command.WordsError.{WordsError}
-use Rattle.ooo_words.specs.declared.command.WordsError.TheVariants.{OutOfMemory}
+use Rattle.ooo_words.specs.declared.refused.WordsError.{WordsError}
+use Rattle.ooo_words.specs.declared.refused.WordsError.TheVariants.{OutOfMemory}
 use Rattle.ooo_words.specs.declared.setting.Written.{Written}
 use Rattle.ooo_words.specs.Reading.{Setting}
 
@@ -13,6 +13,6 @@ setting_of written = record {
   value = option_map (λ (value : Bor (List ℕ)). value.now) written.value;
 }
 
--- the error is want of memory or that breach
+-- the error is out of memory or that breach
 abbrev pub IsBreach : Option WordsError → WordsError → Type 0
 IsBreach breach e = (e ≡ OutOfMemory) ⊎ (breach ≡ Some e)

@@ -1,14 +1,14 @@
 ghost use Rattle.std.specs.Prelude.{◌≡◌, [], List, map, Some, None, OnOk, IfOk, IfErr};
 ghost use Rattle.std.specs.String.{string_bytes};
 ghost use Rattle.ooo_words.specs.Options.{option_word};
-ghost use Rattle.ooo_words.specs.Reading.{breach_of, first_breach, is_met, settings_of};
+ghost use Rattle.ooo_words.specs.Reading.{breach_of, first_breach, is_met, refused_with, settings_of};
 ghost use Rattle.ooo_words.specs.Written.{IsBreach, setting_of};
 
-use crate::command::WordsError;
 use crate::options::{CommandName, OptionName};
+use crate::refused::{WordsBreach, WordsError};
 use crate::setting::{Written, first_setting};
-use crate::word::Word;
-use std::alloc::Global;
+use ooo_value::Name;
+use std::alloc::{AllocError, Global};
 
 /// The first breach of the words after the command, or Ok where there is none.
 pub fn check_settings(
@@ -16,8 +16,10 @@ pub fn check_settings(
     command: CommandName,
     words: &[String],
 ) -> Result<(), WordsError>
-    ensures ok { OnOk result (first_breach command [] (settings_of (map string_bytes words.now)) ≡ None) }
-    ensures err { IfErr result (IsBreach (first_breach command [] (settings_of (map string_bytes words.now)))) }
+    ensures ok { OnOk result
+        (first_breach command [] (settings_of (map string_bytes words.now)) ≡ None) }
+    ensures err { IfErr result
+        (IsBreach (first_breach command [] (settings_of (map string_bytes words.now)))) }
 {
     let mut met = Vec::new(alloc);
     let mut rest = words;
@@ -36,24 +38,32 @@ fn option_set(
     setting: &Written<'_>,
 ) -> Result<OptionName, WordsError>
     ensures named { IfOk result (λ option. option_word option ≡ setting.now.option.now) }
-    ensures ok { OnOk result (breach_of command (map option_word met.now) (setting_of setting.now) ≡ None) }
+    ensures ok { OnOk result
+        (breach_of command (map option_word met.now) (setting_of setting.now) ≡ None) }
     ensures err { IfErr result
         (IsBreach (breach_of command (map option_word met.now) (setting_of setting.now))) }
 {
     let word = setting.option;
     let Some(option) = command.option_named(word) else {
-        return Err(WordsError::UnknownOption(Word::new(alloc, word)?));
+        return Err(refused(alloc, WordsBreach::UnknownOption, word)?);
     };
     if is_among(met, option) {
-        return Err(WordsError::Twice(Word::new(alloc, word)?));
+        return Err(refused(alloc, WordsBreach::Twice, word)?);
     }
     let Some(value) = setting.value else {
-        return Err(WordsError::NoValue(Word::new(alloc, word)?));
+        return Err(refused(alloc, WordsBreach::NoValue, word)?);
     };
     if !option.takes(value) {
-        return Err(WordsError::BadValue(Word::new(alloc, word)?));
+        return Err(refused(alloc, WordsBreach::BadValue, word)?);
     }
     Ok(option)
+}
+
+/// The error of a breach that is told with a word.
+fn refused(alloc: Global, breach: WordsBreach, word: &str) -> Result<WordsError, AllocError>
+    ensures { IfOk result (λ e. e ≡ refused_with breach word.now) }
+{
+    Ok(WordsError::Refused(breach, Some(Name::new(alloc, word)?)))
 }
 
 /// Whether an option is among those met.

@@ -2,19 +2,18 @@
 #![tactic(auto)]
 
 mod breach;
-pub mod command;
+mod command;
+pub mod law;
 mod matches;
 mod numbers;
-pub mod options;
+mod options;
 mod reader;
 mod refused;
 mod setting;
-pub mod word;
 
-pub use command::{Command, WordsError};
+pub use command::Command;
 pub use reader::read;
-pub use refused::refusal;
-pub use word::Word;
+pub use refused::{WordsBreach, WordsError, refusal};
 
 #[cfg(test)]
 mod tests;

@@ -4,8 +4,8 @@ ghost use Rattle.clap.specs.Simple.{app_of};
 ghost use Rattle.ooo_words.specs.Parser.{HasValuesOf, parser_of};
 ghost use Rattle.ooo_words.specs.Reading.{first_breach, settings_of};
 
-use crate::command::WordsError;
 use crate::options::CommandName;
+use crate::refused::WordsError;
 use clap::error::ErrorKind;
 use clap::{Arg, ArgMatches, Command as Parser};
 use std::alloc::{AllocError, Global};

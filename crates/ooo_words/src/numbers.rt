@@ -2,13 +2,20 @@ ghost use Rattle.std.specs.Prelude.{◌≡◌, ◌≤◌, true, length, take_whi
 ghost use Rattle.std.specs.Char.{is_ascii_digit};
 ghost use Rattle.std.specs.List.{list_all};
 ghost use Rattle.std.specs.Str.Parse.{digits_value};
+ghost use Rattle.ooo_words.specs.Limits.{time_digits};
 ghost use Rattle.ooo_words.specs.Numbers.{is_numeral, number_within, numeral_value, time_of, unit_named};
 
 use ooo_time::{Scale, Time, from_amount};
 
+/// The most digits of a number.
+const NUMBER_DIGITS: usize = 10;
+
+/// The most digits of a time's number.
+const TIME_DIGITS: usize = 19;
+
 /// The number that 1 to `most` decimal digits write, with no leading zero but in `0` itself.
 pub fn numeral(text: &[u8], most: usize) -> Option<u64>
-    requires { most ≤ 19 }
+    requires { most ≤ time_digits }
     ensures { result ≡ numeral_value most text.now }
 {
     if is_numeral(text, most) {
@@ -37,7 +44,7 @@ fn are_digits(text: &[u8]) -> bool
 
 /// The number that decimal digits write.
 fn value(digits: &[u8]) -> u64
-    requires few { length digits.now ≤ 19 }
+    requires few { length digits.now ≤ time_digits }
     requires all_digits { list_all is_ascii_digit digits.now ≡ true }
     ensures { result ≡ digits_value 10 digits.now }
 {
@@ -48,11 +55,11 @@ fn value(digits: &[u8]) -> u64
     value
 }
 
-/// The number of at most ten digits that a text writes, where it is in this range.
+/// The number that a text writes, where it is in this range.
 pub fn number(text: &[u8], least: u32, greatest: u32) -> Option<u32>
     ensures { result ≡ number_within least greatest text.now }
 {
-    let value = numeral(text, 10)?;
+    let value = numeral(text, NUMBER_DIGITS)?;
     if u64::from(least) <= value && value <= u64::from(greatest) {
         Some(value as u32)
     } else {
@@ -60,12 +67,12 @@ pub fn number(text: &[u8], least: u32, greatest: u32) -> Option<u32>
     }
 }
 
-/// The time that a text writes: a number of at most 19 digits, and then its unit.
+/// The time that a text writes: a number, and then its unit.
 pub fn time(text: &[u8]) -> Option<Time>
     ensures { result ≡ time_of text.now }
 {
     let digits = digit_count(text);
-    let count = numeral(&text[..digits], 19)?;
+    let count = numeral(&text[..digits], TIME_DIGITS)?;
     let unit = unit(&text[digits..])?;
     from_amount(count, unit).ok()
 }

@@ -5,6 +5,21 @@ ghost use Rattle.ooo_words.specs.Options.{option_named, option_text, option_word
 
 use crate::numbers::{number, time};
 
+// The greatest numbers that the options take.
+const MOST_WORKERS: u32 = 64;
+
+/// Delta cycles at one time.
+const MOST_DELTAS: u32 = 1_000_000;
+
+/// Statements in one activation.
+const MOST_STATEMENTS: u32 = 1_000_000_000;
+
+const MOST_STAGES: u32 = 200;
+
+const MOST_ITEMS: u32 = 10_000;
+
+const MOST_SEED: u32 = u32::MAX;
+
 /// A command, by its name.
 #[derive(Clone, Copy, PartialEq, Eq, Debug)]
 pub enum CommandName {
@@ -136,12 +151,12 @@ impl OptionName {
         let text = text.as_bytes();
         match self {
             OptionName::Stop => None,
-            OptionName::Workers => number(text, 1, 64),
-            OptionName::Deltas => number(text, 1, 1_000_000),
-            OptionName::Statements => number(text, 1, 1_000_000_000),
-            OptionName::Stages => number(text, 1, 200),
-            OptionName::Items => number(text, 1, 10_000),
-            OptionName::Seed => number(text, 0, u32::MAX),
+            OptionName::Workers => number(text, 1, MOST_WORKERS),
+            OptionName::Deltas => number(text, 1, MOST_DELTAS),
+            OptionName::Statements => number(text, 1, MOST_STATEMENTS),
+            OptionName::Stages => number(text, 1, MOST_STAGES),
+            OptionName::Items => number(text, 1, MOST_ITEMS),
+            OptionName::Seed => number(text, 0, MOST_SEED),
         }
     }
 

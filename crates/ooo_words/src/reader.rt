@@ -7,40 +7,51 @@ ghost use Rattle.ooo_words.specs.Reading.{Setting, command_of, reading};
 ghost use Rattle.ooo_words.specs.declared.options.OptionName.TheVariants.{Stop};
 
 use crate::breach::check_settings;
-use crate::command::{Command, WordsError};
+use crate::command::Command;
 use crate::matches::matches;
 use crate::numbers::time;
 use crate::options::{CommandName, OptionName};
-use crate::word::Word;
+use crate::refused::{WordsBreach, WordsError};
 use clap::ArgMatches;
 use ooo_time::Time;
+use ooo_value::Name;
 use std::alloc::Global;
 
-/// The delta cycles at one time that a run may have where the words don't say.
+// The numbers of the options where the words don't say.
+const DEFAULT_WORKERS: u32 = 1;
+
+/// Delta cycles at one time.
 const DEFAULT_DELTAS: u32 = 10_000;
 
-/// The statements that a run may have where the words don't say.
+/// Statements in one activation.
 const DEFAULT_STATEMENTS: u32 = 1_000_000;
+
+const DEFAULT_STAGES: u32 = 4;
+
+const DEFAULT_ITEMS: u32 = 16;
+
+const DEFAULT_SEED: u32 = 1;
 
 /// The command that the words after the program's name ask for.
 ///
 /// The first word names the command, and each option of it is given as `--name VALUE` or `--name=VALUE`, in any order
-/// and at most once. Else the error is the first breach from left to right, or want of memory.
+/// and at most once. Else the error is the first breach from left to right, or out of memory.
 pub fn read(alloc: Global, words: &[String]) -> Result<Command, WordsError>
     ensures ok { IfOk result (λ command. reading (map string_bytes words.now) ≡ Ok command) }
 
     // Each number is in the range of its option.
     ensures limits { IfOk result IsWithinLimits }
 
-    // Each error but want of memory is the first breach.
+    // Each error but out of memory is the first breach.
     ensures err { IfErr result (λ e.
         (e ≡ WordsError.OutOfMemory) ⊎ (reading (map string_bytes words.now) ≡ Err e)) }
 {
     let Some((word, settings)) = words.split_first() else {
-        return Err(WordsError::NoCommand);
+        return Err(WordsError::Refused(WordsBreach::NoCommand, None));
     };
     let Some(command) = CommandName::named(word.as_str()) else {
-        return Err(WordsError::UnknownCommand(Word::new(alloc, word.as_str())?));
+        let word = Name::new(alloc, word.as_str())?;
+        return Err(WordsError::Refused(WordsBreach::UnknownCommand, Some(word)));
     };
     check_settings(alloc, command, settings)?;
     let matches = matches(alloc, command, words)?;
@@ -55,7 +66,7 @@ fn command_given(command: CommandName, matches: &ArgMatches<'_>) -> Command
     match command {
         CommandName::Run => Command::Run {
             stop: stop_time(matches),
-            workers: number_or(matches, OptionName::Workers, 1),
+            workers: number_or(matches, OptionName::Workers, DEFAULT_WORKERS),
             deltas: number_or(matches, OptionName::Deltas, DEFAULT_DELTAS),
             statements: number_or(matches, OptionName::Statements, DEFAULT_STATEMENTS),
         },
@@ -67,10 +78,10 @@ fn command_given(command: CommandName, matches: &ArgMatches<'_>) -> Command
         CommandName::Check => Command::Check,
         CommandName::Tables => Command::Tables,
         CommandName::Bench => Command::Bench {
-            stages: number_or(matches, OptionName::Stages, 4),
-            items: number_or(matches, OptionName::Items, 16),
-            seed: number_or(matches, OptionName::Seed, 1),
-            workers: number_or(matches, OptionName::Workers, 1),
+            stages: number_or(matches, OptionName::Stages, DEFAULT_STAGES),
+            items: number_or(matches, OptionName::Items, DEFAULT_ITEMS),
+            seed: number_or(matches, OptionName::Seed, DEFAULT_SEED),
+            workers: number_or(matches, OptionName::Workers, DEFAULT_WORKERS),
         },
     }
 }

@@ -16,7 +16,8 @@ pub fn first_setting(words: &[String]) -> Option<(Written<'_>, &[String])>
     ensures exact { MatchOption result (words.now ≡ []) (λ found.
         settings_of (map string_bytes words.now)
         ≡ setting_of found.0 ∷ settings_of (map string_bytes found.1.now)) }
-    ensures shorter { MatchOption result (words.now ≡ []) (λ found. length found.1.now < length words.now) }
+    ensures shorter { MatchOption result (words.now ≡ [])
+        (λ found. length found.1.now < length words.now) }
 {
     let (word, rest) = words.split_first()?;
     let option = word.as_str();
