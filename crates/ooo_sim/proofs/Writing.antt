@@ -1,5 +1,5 @@
 -- What a call wrote.
-use Rattle.std.proofs.Common.{◌≡◌, ℕ, List, [], Option, None, Some, length, take, refl, sym, subst, take_all, arith}
+use Rattle.std.proofs.Common.{◌≡◌, ℕ, List, [], Option, None, Some, Result, length, take, refl, sym, ap, subst, ◌∙◌, take_all, arith}
 use Rattle.std.specs.Io.KnownBytes.{Appends}
 use Rattle.std.proofs.KnownBytes.{Appends-nil}
 use Rattle.ooo_sim.specs.declared.reply.Reply.{Reply}
@@ -7,7 +7,10 @@ use Rattle.ooo_sim.specs.declared.status.Status.{Status}
 use Rattle.ooo_sim.specs.declared.status.Status.TheVariants as status
 use Rattle.ooo_sim.specs.Calls.{Wrote, IsReplyFrom}
 use Rattle.ooo_sim.specs.Laws.{HasOneReply}
-use Rattle.ooo_sim.specs.Pumps.{AreFirst, AppendsPrefix}
+use Rattle.ooo_words.specs.declared.refused.WordsError.{WordsError}
+use Rattle.ooo_sim.specs.declared.request.Request.{Request}
+use Rattle.ooo_sim.specs.Pumps.{AreFirst, GaveFirst, AppendsPrefix}
+use Rattle.ooo_sim.specs.Replies.{IsReplyTo}
 use Rattle.ooo_sim.specs.Requests.{request_of, bytes_wanted}
 use Rattle.ooo_sim.specs.Statuses.{IsFailure}
 
@@ -45,3 +48,19 @@ module _ (one : HasOneReply) (words : List (List ℕ)) (rest : Option (List ℕ)
     whole = λ fine. absurd (fine tt);
     prefix = λ b is. subst (λ z. AppendsPrefix old new z.text) (one words from.read r b from.is is) w;
   }
+
+nothing_first : (rest : Option (List ℕ)) → AreFirst 0 rest []
+nothing_first None = tt
+nothing_first (Some bytes) = refl
+
+-- a reply that needs no bytes
+pub replied_unread : (asked own : Result Request WordsError) (rest : Option (List ℕ)) (r : Reply) → asked ≡ own → bytes_wanted own ≡ 0 → IsReplyTo own [] r → IsReplyFrom asked rest r
+replied_unread asked own rest r same none is =
+    subst (λ q. IsReplyFrom q rest r) (sym same) (record { read = []; told = subst (λ n. AreFirst n rest []) (sym none) (nothing_first rest); is = is })
+
+-- a source of which nothing is taken
+pub nothing_given : (asked own : Result Request WordsError) (rest : Option (List ℕ)) → asked ≡ own → bytes_wanted own ≡ 0 → GaveFirst (bytes_wanted asked) rest rest
+nothing_given asked own None same none = tt
+nothing_given asked own (Some bytes) same none =
+    let zero : bytes_wanted asked ≡ 0 = ap bytes_wanted same ∙ none in
+    subst (λ n. GaveFirst n (Some bytes) (Some bytes)) (sym zero) refl

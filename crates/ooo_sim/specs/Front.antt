@@ -1,5 +1,5 @@
 -- What the layers' errors are to the front.
-use Rattle.std.specs.Prelude.{◌≡◌, ℕ, List, Result, Ok, Err}
+use Rattle.std.specs.Prelude.{ℕ, List, Result, Ok, Err}
 use Rattle.ooo_lexer.specs.declared.error.LexError.{LexError}
 use Rattle.ooo_lexer.specs.declared.error.LexError.TheVariants as lexer
 use Rattle.ooo_threads.specs.declared.form.FormError.{FormError}

@@ -1,9 +1,8 @@
 -- What holds of replies.
-use Rattle.std.specs.Prelude.{◌≡◌, ◌≤◌, ℕ, List, Option, length}
+use Rattle.std.specs.Prelude.{◌≡◌, ℕ, List}
 use Rattle.ooo_threads.specs.declared.model.ThreadModel.{ThreadModel}
 use Rattle.ooo_sim.specs.declared.front.Refusal.{Refusal}
 use Rattle.ooo_sim.specs.declared.reply.Reply.{Reply}
-use Rattle.ooo_sim.specs.declared.reply.TheConstants.{MOST_BYTES}
 use Rattle.ooo_sim.specs.Refusals.{IsTextOf, IsRefused}
 use Rattle.ooo_sim.specs.Replies.{IsReply}
 

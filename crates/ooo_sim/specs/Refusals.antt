@@ -1,5 +1,5 @@
 -- Why a text is refused, layer by layer, and the line that says so.
-use Rattle.std.specs.Prelude.{◌≡◌, ℕ, List, [], ◌++◌, codes, decimal}
+use Rattle.std.specs.Prelude.{ℕ, List, ◌++◌, codes, decimal}
 use Rattle.ooo_lexer.specs.Breaches.{HasBreach, name_of}
 use Rattle.ooo_lexer.specs.Pieces.{Piece, Cuts, lexemes}
 use Rattle.ooo_lexer.specs.declared.position.Position.{Position}

@@ -2,9 +2,7 @@
 use Rattle.std.specs.Prelude.{◌≡◌, ℕ, ◌<◌, ◌≤◌, List, [], Option, Result, Ok, Err, codes, length, unwrap_or}
 use Rattle.ooo_time.specs.declared.time.Time.{Time}
 use Rattle.ooo_threads.specs.declared.model.ThreadModel.{ThreadModel}
-use Rattle.ooo_threads.specs.Ready.{IsRunOf}
-use Rattle.ooo_threads.specs.Report.{report_text}
-use Rattle.ooo_threads.specs.Sequence.{Result as RunResult}
+use Rattle.ooo_threads.specs.Ready.{IsReportOf}
 use Rattle.ooo_words.specs.Refused.{refusal_line as words_line}
 use Rattle.ooo_words.specs.declared.refused.WordsError.{WordsError}
 use Rattle.ooo_sim.specs.declared.front.Refusal.{Refusal}
@@ -22,16 +20,16 @@ abbrev pub reply : Status → List ℕ → Reply
 reply status text = record { status = status; text = text }
 
 -- the reply reports a run of the model, up to the given stop time or its own
-pub record IsReport (stop : Option Time) (m : ThreadModel) (r : Reply) : Type 0 where
-  pub result : RunResult
-  pub runs : IsRunOf stop m result
-  pub is : r ≡ reply status.Done (report_text result)
+pub record Reports (stop : Option Time) (m : ThreadModel) (r : Reply) : Type 0 where
+  pub text : List ℕ
+  pub report : IsReportOf stop m text
+  pub is : r ≡ reply status.Done text
 
 -- the reply to a text, with a stop time in place of its own if one is given: it is too long; a layer refuses it; or it is a model's, and has a run
 pub data IsTextReply (stop : Option Time) (text : List ℕ) (r : Reply) : Type 0 where
   too_long : MOST_BYTES < length text → r ≡ reply status.SourceTooLong (codes "refused source TooLong\n") → IsTextReply stop text r
   refused : length text ≤ MOST_BYTES → (why : Refusal) → IsRefused text why → r ≡ reply status.TextRefused (refusal_line why) → IsTextReply stop text r
-  ran : length text ≤ MOST_BYTES → (m : ThreadModel) → IsTextOf text m → IsReport stop m r → IsTextReply stop text r
+  ran : length text ≤ MOST_BYTES → (m : ThreadModel) → IsTextOf text m → Reports stop m r → IsTextReply stop text r
 
 -- the reply to a request, from the bytes that it reads
 abbrev pub IsReplyTo : Result Request WordsError → List ℕ → Reply → Type 0

@@ -1,5 +1,5 @@
 -- What the words ask for, of what is built.
-use Rattle.std.specs.Prelude.{ℕ, Bool, false, ◌||◌, ◌+◌, List, Option, Result, Ok, Err, codes, nat_eq, map, string_bytes, String, Global}
+use Rattle.std.specs.Prelude.{ℕ, Bool, false, ◌||◌, ◌+◌, List, Result, Ok, Err, codes, nat_eq, map, string_bytes, String}
 use Rattle.std.specs.List.{list_any, starts_with}
 use Rattle.ooo_threads.specs.Ready.{StopsInTime}
 use Rattle.ooo_words.specs.declared.command.Command.{Command}
@@ -11,7 +11,7 @@ use Rattle.ooo_sim.specs.declared.request.Request.TheVariants as request
 use Rattle.ooo_sim.specs.declared.reply.TheConstants.{MOST_BYTES}
 
 -- the words as their bytes
-abbrev pub words_of : List (String Global) → List (List ℕ)
+abbrev pub words_of : {A : Type 0} → List (String A) → List (List ℕ)
 words_of words = map string_bytes words
 
 -- a word that gives a limit of delta cycles or of statements

@@ -65,8 +65,7 @@ pub fn simulate<So: Source, Si: Sink, G: Gate>(
     sink: &mut Si,
     _gate: &G,
 ) -> Status
-    ensures written {
-        Wrote (words_of words.now) (So.rest source.old) result (Si.held sink.old) (Si.held sink.new) }
+    ensures written { Wrote (words_of words.now) (So.rest source.old) result (Si.held sink.old) (Si.held sink.new) }
     ensures taken { Took So.rest (words_of words.now) result source.old source.new }
     ensures source_fault { result ≡ Status.SourceFailed →
         Rose (So.faults source.old) (So.faults source.new) × (sink.new ≡ sink.old) }

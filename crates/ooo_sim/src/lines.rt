@@ -17,12 +17,7 @@ pub(crate) fn refusal_line(alloc: Global, refusal: Refusal) -> Result<Vec<u8>, A
 }
 
 // The line of a layer: the names of the layer and of what is wrong, and where that is.
-fn layer_line(
-    alloc: Global,
-    layer: &str,
-    name: &str,
-    at: Position,
-) -> Result<Vec<u8>, AllocError>
+fn layer_line(alloc: Global, layer: &str, name: &str, at: Position) -> Result<Vec<u8>, AllocError>
     ensures { IfOk result (λ line. line.items ≡ layer_line layer.now name.now at) }
 {
     let mut line = Vec::from_slice(alloc, b"refused ")?;

@@ -1,14 +1,14 @@
 ghost use Rattle.std.specs.Prelude.{◌≡◌, IfOk};
-ghost use Rattle.ooo_threads.specs.Ready.{IsReady, IsRunOf, StopsInTime};
+ghost use Rattle.ooo_threads.specs.Ready.{IsReady, StopsInTime};
 ghost use Rattle.ooo_sim.specs.Refusals.{refusal_line};
-ghost use Rattle.ooo_sim.specs.Replies.{IsTextReply, IsReport, reply};
+ghost use Rattle.ooo_sim.specs.Replies.{IsTextReply, Reports, reply};
 ghost use Rattle.ooo_sim.specs.Statuses.{IsFailure};
 ghost use Rattle.ooo_sim.specs.declared.status.Status.TheVariants as status;
 
 use crate::front::{FrontError, Refusal, model_of};
 use crate::lines::refusal_line;
 use crate::status::Status;
-use ooo_threads::{Ready, write_report};
+use ooo_threads::Ready;
 use ooo_time::Time;
 use sqlite_items::Items;
 use std::alloc::{AllocError, Global};
@@ -59,12 +59,11 @@ fn refuse(alloc: Global, refusal: Refusal) -> Result<Reply, AllocError>
     Ok(Reply::new(Status::TextRefused, refusal_line(alloc, refusal)?))
 }
 
-// Runs a model and reports.
+// The reply with the report of a model's run.
 fn run(alloc: Global, ready: &Ready, stop: Option<Time>) -> Result<Reply, AllocError>
     requires ready { IsReady ready.now }
     requires stop { StopsInTime stop }
-    ensures { IfOk result (IsReport stop ready.now.model) }
+    ensures { IfOk result (Reports stop ready.now.model) }
 {
-    let run = ready.run(alloc, stop)?;
-    Ok(Reply::new(Status::Done, write_report(run)?))
+    Ok(Reply::new(Status::Done, ready.report(alloc, stop)?))
 }

@@ -1,6 +1,6 @@
 //! What holds of the definitions: functions that do nothing, whose clauses are laws.
 
-ghost use Rattle.ooo_threads.specs.Laws.{IsOneModel, HasOneModel, HasOneRun};
+ghost use Rattle.ooo_threads.specs.Laws.{IsOneModel, HasOneModel, HasOneReport};
 ghost use Rattle.ooo_threads.specs.Walker.{HasOneResult};
 
 /// The grammar has no two readings: lexemes are one model's at most.
@@ -9,8 +9,8 @@ pub fn one_model()
     ensures model { HasOneModel }
 {}
 
-/// A run of threads has one result, and so has the run of a model.
+/// A run of threads has one result, and a model one report.
 pub fn one_result()
     ensures threads { HasOneResult }
-    ensures model { HasOneRun }
+    ensures report { HasOneReport }
 {}
