@@ -3,6 +3,7 @@ ghost use Rattle.ooo_value.specs.Operators.{amount_of, left_shift_of, right_shif
 ghost use Rattle.ooo_value.specs.Values.{number_of};
 
 use crate::operators::Fault;
+use crate::times::natural;
 use crate::values::Value;
 
 // `<<`, in the promoted kind of the left side. It wraps.
@@ -37,17 +38,8 @@ fn amount(by: Value, width: u32) -> Result<u32, Fault>
     ensures value { result ≡ amount_of width (number_of by) }
     ensures below { IfOk result (λ n. n < width) }
 {
-    let by = match by {
-        Value::Bool(b) => u64::from(b),
-        Value::Int(x) if x >= 0 => x as u64,
-        Value::Uint(x) => u64::from(x),
-        Value::Long(x) if x >= 0 => x as u64,
-        Value::Ulong(x) => x,
-        Value::Int(_) | Value::Long(_) => return Err(Fault::ShiftRange),
-    };
-    if by < u64::from(width) {
-        Ok(by as u32)
-    } else {
-        Err(Fault::ShiftRange)
+    match natural(by) {
+        Some(n) if n < u64::from(width) => Ok(n as u32),
+        _ => Err(Fault::ShiftRange),
     }
 }
