@@ -1,13 +1,14 @@
 //! Laws of kinds, values and operators. Each function does nothing, and its contract is the law.
 
 ghost use Rattle.std.specs.Prelude.{◌≡◌, ◌≢◌, ◌↔◌, ◌⊎◌, ◌+◌, ◌^◌, pos, neg_ℤ, unsigned_abs, IsTrue, IsFalse, Ok, Err, IfOk, IfErr};
+ghost use Rattle.std.specs.Int.{int_shr};
 ghost use Rattle.ooo_value.specs.declared.kinds.Kind.TheVariants as kind;
 ghost use Rattle.ooo_value.specs.declared.operators.Fault.TheVariants as fault;
 ghost use Rattle.ooo_value.specs.declared.operators.Op.TheVariants as op;
 ghost use Rattle.ooo_value.specs.declared.values.Value.TheVariants as value;
 ghost use Rattle.ooo_value.specs.Faults.{DividesByZero, Overflows, ShiftsTooFar, is_shift};
 ghost use Rattle.ooo_value.specs.Kinds.{common_kind, is_signed, promoted_kind, width_of};
-ghost use Rattle.ooo_value.specs.Operators.{IsFloor, IsQuotientAndRest, binary_kind, binary_of, bits_in, inversion_of, negation_of, right_shift_of};
+ghost use Rattle.ooo_value.specs.Operators.{IsFloor, IsQuotientAndRest, binary_kind, binary_of, bits_in, inversion_of, negation_of, shift_of};
 ghost use Rattle.ooo_value.specs.Times.{IsTime, ticks_in, time_of};
 ghost use Rattle.ooo_value.specs.Values.{IsCongruent, IsOfKind, conversion_of, kind_of, number_in, number_of, is_in_range};
 
@@ -108,7 +109,7 @@ pub fn inversion_has_the_other_bits(v: Value)
 /// `>>` divides by a power of two and rounds down, so it copies the sign.
 pub fn right_shift_rounds_down(v: Value, by: Value)
     ensures { let power = 2 ^ unsigned_abs (number_of by) in
-        IfOk (right_shift_of v by) (λ w. IsFloor (number_of v) power (number_of w)) }
+        IfOk (shift_of int_shr v by) (λ w. IsFloor (number_of v) power (number_of w)) }
 {}
 
 /// The quotient times the divisor and the rest make the left side, and the rest is smaller than

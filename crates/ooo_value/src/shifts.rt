@@ -1,5 +1,6 @@
 ghost use Rattle.std.specs.Prelude.{◌≡◌, ◌<◌, IfOk};
-ghost use Rattle.ooo_value.specs.Operators.{amount_of, left_shift_of, right_shift_of};
+ghost use Rattle.std.specs.Int.{int_shr};
+ghost use Rattle.ooo_value.specs.Operators.{amount_of, shift_of, times_power};
 ghost use Rattle.ooo_value.specs.Values.{number_of};
 
 use crate::operators::Fault;
@@ -9,7 +10,7 @@ use crate::values::Value;
 // `<<`, in the promoted kind of the left side. It wraps.
 #[tactic(auto, using(crate::proofs::Wraps::shl_32, crate::proofs::Wraps::shl_64))]
 pub(crate) fn shift_left(v: Value, by: Value) -> Result<Value, Fault>
-    ensures { result ≡ left_shift_of v by }
+    ensures { result ≡ shift_of times_power v by }
 {
     Ok(match v {
         Value::Bool(b) => Value::Int(i32::from(b) << amount(by, 32)?),
@@ -22,7 +23,7 @@ pub(crate) fn shift_left(v: Value, by: Value) -> Result<Value, Fault>
 
 // `>>`, in the promoted kind of the left side. It copies the sign.
 pub(crate) fn shift_right(v: Value, by: Value) -> Result<Value, Fault>
-    ensures { result ≡ right_shift_of v by }
+    ensures { result ≡ shift_of int_shr v by }
 {
     Ok(match v {
         Value::Bool(b) => Value::Int(i32::from(b) >> amount(by, 32)?),
