@@ -1,8 +1,9 @@
 -- Which fault an operator answers, by the tests that it makes.
 use Rattle.std.proofs.Common.{rules, arith, ◌≡◌, ◌≢◌, ◌↔◌, ◌⊎◌, inl, inr, ◌≤ℤ◌, ◌<ℤ◌, ◌<◌, ◌^◌, ◌%◌, ◌-◌, ◌≤◌, refl, sym, ◌∙◌, ap, ℤ, ℕ, suc, pos, negsuc}
 use Rattle.std.specs.Prelude.{Ok, Err, IsTrue, nat_le, nat_lt, unsigned_abs, Bool, true, false, not, ◌&&◌, if◌then◌else◌}
-use Rattle.std.specs.Int.{w32, w64, cast_signed}
-use Rattle.std.proofs.Math.Nat.{pow-le-pow_right}
+use Rattle.std.specs.Int.{Width, w32, w64, cast_signed, int_wrap}
+use Rattle.std.proofs.Math.Nat.{pow-le-pow_right, mod-eq_of_lt}
+use Rattle.std.proofs.lemmas.Nat.{pow_pos}
 use Rattle.std.proofs.Common.{lt_of_lt_of_le, lit<}
 use Rattle.ooo_value.specs.declared.kinds.Kind.{Kind}
 use Rattle.ooo_value.specs.declared.kinds.Kind.TheVariants as kind
@@ -13,39 +14,36 @@ use Rattle.ooo_value.specs.Kinds.{common_kind, width_of}
 use Rattle.ooo_value.specs.Operators.{Answer, Class, Sum, Quotient, Bits, Shift, Comparison, amount_of, answer_of, shifted_by}
 use Rattle.ooo_value.specs.Faults.{OverflowsIn, IsAmount, divides, shifts}
 use Rattle.ooo_value.specs.Values.{kind_of, number_of, number_in, value_of, is_in_range, is_nonzero, residue}
-use Rattle.ooo_value.proofs.Wraps.{int_wrap_32, int_wrap_64, residue-lt_32, residue-lt_64}
+use Rattle.ooo_value.proofs.Wraps.{int_wrap_is, residue-lt}
+use mir.Val.{bits, hbits}
 
 -- an integer below 2 ^ width is a multiple of it only where it is 0
-residue-zero_32 : (z : ℤ) → unsigned_abs z < 2 ^ 32 → is_nonzero (pos (residue 32 z)) ≡ is_nonzero z
-residue-zero_32 (pos n) h = let e : n % 2 ^ 32 ≡ n = omega arith in ap (λ k. is_nonzero (pos k)) e
-residue-zero_32 (negsuc n) h = let g : 0 < 2 ^ 32 - 1 - n % 2 ^ 32 = omega arith in search rules
-
-residue-zero_64 : (z : ℤ) → unsigned_abs z < 2 ^ 64 → is_nonzero (pos (residue 64 z)) ≡ is_nonzero z
-residue-zero_64 (pos n) h = let e : n % 2 ^ 64 ≡ n = omega arith in ap (λ k. is_nonzero (pos k)) e
-residue-zero_64 (negsuc n) h = let g : 0 < 2 ^ 64 - 1 - n % 2 ^ 64 = omega arith in search rules
+residue-zero : (k : ℕ) (z : ℤ) → unsigned_abs z < 2 ^ k → is_nonzero (pos (residue k z)) ≡ is_nonzero z
+residue-zero k (pos n) h = ap (λ m. is_nonzero (pos m)) (mod-eq_of_lt h)
+residue-zero k (negsuc n) h =
+    let l : n < 2 ^ k = omega arith in
+    let e : n % 2 ^ k ≡ n = mod-eq_of_lt l in
+    let g : 0 < 2 ^ k - 1 - n % 2 ^ k = omega arith in
+    search rules
 
 -- bits are all 0 however they are read
-read-zero_32 : (r : ℕ) → r < 2 ^ 32 → is_nonzero (cast_signed w32 r) ≡ is_nonzero (pos r)
-read-zero_32 r h = at (nat_lt r (2 ^ 31)) refl
+read-zero : (w : Width) (r : ℕ) → r < 2 ^ bits w → is_nonzero (cast_signed w r) ≡ is_nonzero (pos r)
+read-zero w r h = at (nat_lt r (2 ^ hbits w)) refl
   where
-    at : (low : Bool) → nat_lt r (2 ^ 31) ≡ low → is_nonzero (if low then pos r else negsuc (2 ^ 32 - suc r)) ≡ is_nonzero (pos r)
+    at : (low : Bool) → nat_lt r (2 ^ hbits w) ≡ low → is_nonzero (if low then pos r else negsuc (2 ^ bits w - suc r)) ≡ is_nonzero (pos r)
     at true e = refl
-    at false e = let g : 0 < r = grind arith in search rules
-
-read-zero_64 : (r : ℕ) → r < 2 ^ 64 → is_nonzero (cast_signed w64 r) ≡ is_nonzero (pos r)
-read-zero_64 r h = at (nat_lt r (2 ^ 63)) refl
-  where
-    at : (low : Bool) → nat_lt r (2 ^ 63) ≡ low → is_nonzero (if low then pos r else negsuc (2 ^ 64 - suc r)) ≡ is_nonzero (pos r)
-    at true e = refl
-    at false e = let g : 0 < r = grind arith in search rules
+    at false e = let g : 0 < r = grind (arith, pow_pos (hbits w)) in search rules
 
 -- so such an integer is 0 in a kind of that width only where it is 0
+wrap-zero : (w : Width) (z : ℤ) → unsigned_abs z < 2 ^ bits w → is_nonzero (int_wrap w z) ≡ is_nonzero z
+wrap-zero w z h = ap is_nonzero (int_wrap_is w z) ∙ read-zero w (residue (bits w) z) (residue-lt (bits w) z) ∙ residue-zero (bits w) z h
+
 value-zero : (k : Kind) (z : ℤ) → k ≢ kind.Bool → unsigned_abs z < 2 ^ width_of k → is_nonzero (number_of (value_of k z)) ≡ is_nonzero z
 value-zero kind.Bool z n h = absurd (n refl)
-value-zero kind.Int z n h = ap is_nonzero (int_wrap_32 z) ∙ read-zero_32 (residue 32 z) (residue-lt_32 z) ∙ residue-zero_32 z h
-value-zero kind.Uint z n h = residue-zero_32 z h
-value-zero kind.Long z n h = ap is_nonzero (int_wrap_64 z) ∙ read-zero_64 (residue 64 z) (residue-lt_64 z) ∙ residue-zero_64 z h
-value-zero kind.Ulong z n h = residue-zero_64 z h
+value-zero kind.Int z n h = wrap-zero w32 z h
+value-zero kind.Uint z n h = residue-zero 32 z h
+value-zero kind.Long z n h = wrap-zero w64 z h
+value-zero kind.Ulong z n h = residue-zero 64 z h
 
 -- an integer of a kind is below 2 ^ width
 magnitude : (k : Kind) (z : ℤ) → IsTrue (is_in_range k z) → unsigned_abs z < 2 ^ width_of k

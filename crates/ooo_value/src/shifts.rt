@@ -8,7 +8,7 @@ use crate::times::natural;
 use crate::values::Value;
 
 // `<<`, in the promoted kind of the left side. It wraps.
-#[tactic(auto, using(crate::proofs::Wraps::shl_32, crate::proofs::Wraps::shl_64))]
+#[tactic(auto, using(crate::proofs::Wraps::shl))]
 pub(crate) fn shift_left(v: Value, by: Value) -> Result<Value, Fault>
     ensures { result ≡ shift_of times_power v by }
 {
