@@ -14,3 +14,4 @@ pub mod Cuttings
 pub mod Progress
 pub mod Decided
 pub mod Lexemes
+pub mod TextValues

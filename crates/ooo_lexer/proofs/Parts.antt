@@ -11,7 +11,7 @@ use Rattle.ooo_lexer.proofs.Finds.{by_test}
 
 -- ---- one part
 
-text_byte_is_no_backslash : (b : ℕ) → is_text_byte b ≡ true → eqb b 92 ≡ false
+pub text_byte_is_no_backslash : (b : ℕ) → is_text_byte b ≡ true → eqb b 92 ≡ false
 text_byte_is_no_backslash b h = grind (arith, nat_tests)
 
 escape_size : (s : Bool) (b : ℕ) (bs : List ℕ) → eqb b 92 ≡ true → begins_escape bs ≡ true → part_length s b bs ≡ 2

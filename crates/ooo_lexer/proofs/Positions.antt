@@ -1,12 +1,12 @@
 -- The line and the column after bytes, as more bytes come.
-use Rattle.std.proofs.Common.{◌≡◌, ℕ, ◌+◌, ◌-◌, ◌≤◌, Bool, true, cond, eqb, List, [], ◌∷◌, ◌++◌, length, refl, sym, ap, subst, ◌∙◌, arith, append_assoc, length-append}
+use Rattle.std.proofs.Common.{◌≡◌, ℕ, ◌+◌, ◌-◌, ◌<◌, ◌≤◌, Bool, true, cond, eqb, List, [], ◌∷◌, ◌++◌, length, take, refl, sym, ap, subst, ◌∙◌, arith, append_assoc, length-append}
 use Rattle.std.specs.List.{suffix_len}
 use Rattle.std.proofs.lemmas.Bool.{cond-true, not-true, eqb-true}
 use Rattle.std.proofs.lemmas.List.{append-nil, length-drop, reverse-append}
 use Rattle.std.proofs.lemmas.List.Sums.{sum_by_push, suffix_len-le-length, count_by-le-length}
 use Rattle.ooo_lexer.specs.Bytes.{is_line_byte}
 use Rattle.ooo_lexer.specs.declared.cursor.Cursor.{Cursor}
-use Rattle.ooo_lexer.specs.Positions.{line_after, column_after, position_after}
+use Rattle.ooo_lexer.specs.Positions.{line_after, column_after, position_after, column_past, position_of_end}
 use Rattle.ooo_lexer.specs.Steps.{cursor_after_byte, cursor_after, position_of}
 use Rattle.ooo_lexer.proofs.Finds.{by_test}
 
@@ -77,3 +77,16 @@ line_bound xs = let e = count_by-le-length (λ b. eqb b 10) xs in omega arith
 
 pub column_bound : (xs : List ℕ) → column_after xs ≤ length xs + 1
 column_bound xs = let e = column_is xs in let f = suffix_len-le-length is_line_byte xs in omega arith
+
+-- ---- the source's end
+
+past_last : (source : List ℕ) → 0 < length source → position_of_end source ≡ column_past (position_after (take (length source - 1) source))
+past_last [] some = absurd (omega arith)
+past_last (b ∷ bs) some = let n : length bs ≡ length (b ∷ bs) - 1 = omega arith in ap (λ n. column_past (position_after (take n (b ∷ bs)))) n
+
+-- the cursor at the last byte of a source is that of the bytes before it
+pub last_cursor : (source : List ℕ) (at : Cursor) → at ≡ cursor_after (record { start = 0; line = 1; column = 1 }) (take (length source - 1) source) → IsAfter (take (length source - 1) source) at
+last_cursor source at is = subst (IsAfter (take (length source - 1) source)) (sym is) (after_bytes [] _ (take (length source - 1) source) first_cursor)
+
+pub end_is : (source : List ℕ) (at : Cursor) → 0 < length source → at ≡ cursor_after (record { start = 0; line = 1; column = 1 }) (take (length source - 1) source) → column_past (position_of at) ≡ position_of_end source
+end_is source at some is = ap column_past (position_is (take (length source - 1) source) at (last_cursor source at is)) ∙ sym (past_last source some)

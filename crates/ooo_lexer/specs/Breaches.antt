@@ -68,6 +68,10 @@ pub record HasBreach (source : List ℕ) (b : LexBreach) (at : Position) : Type 
 abbrev pub IsOnlyBreach : List ℕ → LexBreach → Position → Type 0
 IsOnlyBreach source b at = (c : LexBreach) (there : Position) → HasBreach source c there → (c ≡ b) × (there ≡ at)
 
+-- the source has no breach
+abbrev pub IsUnbroken : List ℕ → Type 0
+IsUnbroken source = (b : LexBreach) (at : Position) → ¬ HasBreach source b at
+
 -- where a source is refused, this holds of its breach and position
 abbrev pub IfRefused : {T : Type 0} → Result T LexError → (LexBreach → Position → Type 0) → Type 0
 IfRefused (Ok tokens) P = Unit {0}

@@ -1,5 +1,5 @@
 -- What holds of every source.
-use Rattle.std.specs.Prelude.{◌≡◌, ℕ, ◌⊎◌, List, All, map}
+use Rattle.std.specs.Prelude.{◌≡◌, ℕ, ◌⊎◌, List, ◌++◌, All, map}
 use Rattle.ooo_lexer.specs.declared.breach.LexBreach.{LexBreach}
 use Rattle.ooo_lexer.specs.declared.numbers.Number.{Number}
 use Rattle.ooo_lexer.specs.declared.position.Position.{Position}
@@ -7,6 +7,7 @@ use Rattle.ooo_lexer.specs.declared.token.Token.{Token}
 use Rattle.ooo_lexer.specs.Numbers.{IsNumberOf}
 use Rattle.ooo_lexer.specs.Pieces.{Piece, Cuts, lexemes}
 use Rattle.ooo_lexer.specs.Breaches.{HasBreach, IsOnlyBreach}
+use Rattle.ooo_lexer.specs.Texts.{Part, written, HasNoStray, AreParts, meant_by, unescaped}
 use Rattle.ooo_lexer.specs.Spans.{AreTokensOf, IsWithin, AreInOrder, lexeme_at}
 
 -- two cuttings of one source are the same
@@ -44,3 +45,8 @@ SpansAreInOrder = (source : List ℕ) (tokens : List Token) → AreTokensOf sour
 -- the tokens with their spans' bytes are the lexemes of any cutting
 abbrev pub SpansAreLexemes : Type 0
 SpansAreLexemes = (source : List ℕ) (tokens : List Token) (pieces : List Piece) → AreTokensOf source tokens → Cuts source pieces → map (lexeme_at source) tokens ≡ lexemes pieces
+
+-- a text's value has one byte for each of its parts, in order, and what follows the parts keeps its own value
+abbrev pub HasValueOfParts : Type 0
+HasValueOfParts = (parts : List Part) (rest : List ℕ) → AreParts parts rest → HasNoStray parts
+    → unescaped (written parts ++ rest) ≡ map meant_by parts ++ unescaped rest

@@ -66,6 +66,10 @@ pub record Cuts (source : List ℕ) (pieces : List Piece) : Type 0 where
   pub whole : joined pieces ≡ source
   pub fits : EachStands pieces []
 
+-- the source is cut into no pieces
+abbrev pub IsUncut : List ℕ → Type 0
+IsUncut source = (pieces : List Piece) → ¬ Cuts source pieces
+
 -- the lexemes among the pieces, in order
 abbrev pub lexemes : List Piece → List Lexeme
 lexemes [] = []
@@ -73,3 +77,7 @@ lexemes (Space b ∷ ps) = lexemes ps
 lexemes (Comment bs ∷ ps) = lexemes ps
 lexemes (Directive bs ∷ ps) = lexemes ps
 lexemes (Kept l ∷ ps) = l ∷ lexemes ps
+
+-- these are the lexemes of whichever pieces the source is cut into
+abbrev pub AreLexemesOf : List ℕ → List Lexeme → Type 0
+AreLexemesOf source ls = (pieces : List Piece) → Cuts source pieces → ls ≡ lexemes pieces

@@ -1,5 +1,5 @@
 -- Where a token stands, by the bytes before it.
-use Rattle.std.specs.Prelude.{ℕ, ◌+◌, ◌==◌, List, [], ◌∷◌, ◌++◌, count_by, length}
+use Rattle.std.specs.Prelude.{ℕ, ◌+◌, ◌==◌, List, [], ◌∷◌, ◌++◌, count_by, take, length}
 use Rattle.std.specs.List.{after_last}
 use Rattle.ooo_lexer.specs.declared.position.Position.{Position}
 use Rattle.ooo_lexer.specs.declared.token.Token.{Token}
@@ -15,6 +15,15 @@ column_after before = length (after_last (λ b. b == 10) before) + 1
 
 abbrev pub position_after : List ℕ → Position
 position_after before = record { line = line_after before; column = column_after before }
+
+-- one column past this position
+abbrev pub column_past : Position → Position
+column_past at = record { line = at.line; column = at.column + 1 }
+
+-- the position of a source's end: one column past that of its last byte, and the first position where it has none
+abbrev pub position_of_end : List ℕ → Position
+position_of_end [] = position_after []
+position_of_end (b ∷ bs) = column_past (position_after (take (length bs) (b ∷ bs)))
 
 -- the token of a lexeme that stands after these bytes
 abbrev pub token_after : List ℕ → Lexeme → Token

@@ -10,6 +10,10 @@ pub record AreTokensOf (source : List ℕ) (tokens : List Token) : Type 0 where
   pub cut : Cuts source pieces
   pub are : tokens ≡ tokens_after [] pieces
 
+-- these are the tokens of whichever pieces the source is cut into
+abbrev pub AreOnlyTokensOf : List ℕ → List Token → Type 0
+AreOnlyTokensOf source tokens = (pieces : List Piece) → Cuts source pieces → tokens ≡ tokens_after [] pieces
+
 -- the span holds a byte and ends within the source
 abbrev pub IsWithin : List ℕ → Token → Type 0
 IsWithin source t = (t.start < t.end) × (t.end ≤ length source)

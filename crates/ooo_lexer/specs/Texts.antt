@@ -55,6 +55,12 @@ EndsLine (b ∷ bs) = IsTrue (ends_line b)
 abbrev pub escaped : ℕ → ℕ
 escaped b = if b == 110 then 10 else (if b == 116 then 9 else b)
 
+-- the byte that a part stands for: itself, or its escape's
+abbrev pub meant_by : Part → ℕ
+meant_by (Byte b) = b
+meant_by (Escape b) = escaped b
+meant_by Stray = 92
+
 -- a text's value, by what stands between its quotes: each escape is one byte
 abbrev pub unescaped : List ℕ → List ℕ
 unescaped [] = []

@@ -1,6 +1,6 @@
 //! What holds of every source: functions that do nothing, whose clauses are laws of the definitions.
 
-ghost use Rattle.ooo_lexer.specs.Laws.{IsCutOneWay, HasOneTokenList, HasOneBreach, HasNoCutting, IsCutOrBroken, IsOneNumber, SpansAreWithin, SpansAreInOrder, SpansAreLexemes};
+ghost use Rattle.ooo_lexer.specs.Laws.{IsCutOneWay, HasOneTokenList, HasOneBreach, HasNoCutting, IsCutOrBroken, IsOneNumber, SpansAreWithin, SpansAreInOrder, SpansAreLexemes, HasValueOfParts};
 
 /// A source is cut into pieces in one way at most, and so has one list of tokens at most (ISO/IEC 14882, [lex.pptoken]).
 pub fn one_cutting()
@@ -25,4 +25,9 @@ pub fn spans()
     ensures within { SpansAreWithin }
     ensures in_order { SpansAreInOrder }
     ensures lexemes { SpansAreLexemes }
+{}
+
+/// A text's value is the joined values of its parts: one byte for each (ISO/IEC 14882, [lex.string] and [lex.ccon]).
+pub fn text_value()
+    ensures { HasValueOfParts }
 {}

@@ -26,7 +26,7 @@ mod token;
 pub use breach::LexBreach;
 pub use error::LexError;
 pub use numbers::{Number, NumberKind, read_number};
-pub use position::Position;
+pub use position::{MOST_BYTES, Position, position_of_end};
 pub use scan::lex;
 pub use texts::unescape;
 pub use token::{Token, TokenKind};

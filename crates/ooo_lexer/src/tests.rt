@@ -2,7 +2,10 @@
 
 mod table;
 
-use crate::{LexBreach, LexError, Number, Position, Token, TokenKind, lex, read_number, unescape};
+use crate::{
+    LexBreach, LexError, MOST_BYTES, Number, Position, Token, TokenKind, lex, position_of_end,
+    read_number, unescape,
+};
 use std::alloc::{AllocError, Global};
 use std::process::Abort;
 use std::test::Fail;
@@ -12,7 +15,7 @@ pub type Case = (&'static [u8], &'static [u8]);
 
 // Writes each token as the letter of its kind, a colon, its bytes and a bar; or the breach's name and position.
 fn shown(rt: &impl Abort, alloc: Global, source: &[u8]) -> Result<Vec<u8>, AllocError> {
-    assert!(rt; source.len() <= 1_048_576);
+    assert!(rt; source.len() <= MOST_BYTES);
     match lex(alloc, source) {
         Ok(tokens) => show_tokens(rt, alloc, source, &tokens),
         Err(error) => show_error(alloc, error),
@@ -122,6 +125,20 @@ fn places_tokens(rt: HostRuntime) -> Result<(), Fail> {
 }
 
 #[test]
+fn tells_where_sources_end(rt: HostRuntime) {
+    let rows: [(&[u8], u32, u32); 4] = [
+        (b"", 1, 1),
+        (b"ab", 1, 3),
+        (b"ab\n", 1, 4),
+        (b"ab\n\nc", 3, 2),
+    ];
+    for (source, line, column) in rows {
+        assert!(rt; source.len() <= MOST_BYTES);
+        assert!(rt; position_of_end(source) == Position { line, column });
+    }
+}
+
+#[test]
 fn reads_numbers(rt: HostRuntime) {
     for (bytes, kind, value) in &table::KINDS {
         let number = Number {
@@ -145,12 +162,12 @@ fn undoes_escapes(rt: HostRuntime) -> Result<(), Fail> {
 
 #[test]
 fn cuts_a_source_of_one_mebibyte(rt: HostRuntime) -> Result<(), Fail> {
-    let slashes = vec![in rt.alloc(); b'/'; 1_048_576]?;
-    assert!(rt; slashes.len() <= 1_048_576);
+    let slashes = vec![in rt.alloc(); b'/'; MOST_BYTES]?;
+    assert!(rt; slashes.len() <= MOST_BYTES);
     let tokens = lex(rt.alloc(), &slashes).ok().ok_or("not cut")?;
     assert!(rt; tokens.is_empty());
-    let digits = vec![in rt.alloc(); b'1'; 1_048_576]?;
-    assert!(rt; digits.len() <= 1_048_576);
+    let digits = vec![in rt.alloc(); b'1'; MOST_BYTES]?;
+    assert!(rt; digits.len() <= MOST_BYTES);
     let position = Position { line: 1, column: 1 };
     assert!(rt;
         lex(rt.alloc(), &digits) == Err(LexError::Refused(LexBreach::NumberTooWide, position))

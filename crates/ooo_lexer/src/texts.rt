@@ -1,4 +1,4 @@
-ghost use Rattle.std.specs.Prelude.{◌≡◌, ◌≤◌, ℕ, List, ◌++◌, OnOk, length};
+ghost use Rattle.std.specs.Prelude.{◌≡◌, ◌≤◌, ◌<◌, [], ◌∷◌, ◌++◌, OnOk, OnErr, length, vec_len, vec_capacity};
 ghost use Rattle.ooo_lexer.specs.Bytes.{is_text_byte, is_escape};
 ghost use Rattle.ooo_lexer.specs.Texts.{escaped, unescaped};
 ghost use Rattle.ooo_lexer.specs.Heads.{text_head, first_part, parts_length};
@@ -72,29 +72,42 @@ fn is_escape(byte: u8) -> bool
     byte == b'n' || byte == b't' || byte == b'\\' || byte == b'"'
 }
 
-/// Appends a text's value, given what stands between its quotes: each escape as the one byte that it stands for
-/// (ISO/IEC 14882, [lex.ccon]).
+/// Adds a text's value to the end of `out`, given what stands between its quotes: each escape as the one byte that
+/// it stands for (ISO/IEC 14882, [lex.ccon]).
 ///
 /// # Errors
 ///
-/// Only where memory is wanting; `out` holds then a front of what it would hold.
+/// Only where memory runs out; `out` is then as it was.
 pub fn unescape(out: &mut Vec<u8>, inside: &[u8]) -> Result<(), AllocError>
-    ensures whole { OnOk result (out.new.items ≡ out.old.items ++ unescaped inside.now) }
-    ensures front { (left : List ℕ) × (out.new.items ++ left ≡ out.old.items ++ unescaped inside.now) }
+    ensures ok { OnOk result (out.new.items ≡ out.old.items ++ unescaped inside.now) }
+    ensures err { OnErr result (out.new.items ≡ out.old.items) }
 {
+    out.reserve(inside.len())?;
     let mut rest = inside;
     'bytes: loop {
         rest = match rest {
             [] => return Ok(()),
             [b'\\', letter, after @ ..] => {
-                out.push(escaped(*letter))?;
+                keep(out, escaped(*letter));
                 after
             }
             [byte, after @ ..] => {
-                out.push(*byte)?;
+                keep(out, *byte);
                 after
             }
         };
+    }
+}
+
+// Adds a byte for which there is room.
+fn keep(bytes: &mut Vec<u8>, byte: u8)
+    requires { vec_len bytes.old < vec_capacity bytes.old }
+    ensures items { bytes.new.items ≡ bytes.old.items ++ byte ∷ [] }
+    ensures capacity { vec_capacity bytes.old ≤ vec_capacity bytes.new }
+{
+    match bytes.push(byte) {
+        Ok(()) => {}
+        Err(_) => unreachable!(),
     }
 }
 

@@ -1,53 +1,49 @@
 -- Which fault an operator answers, by the tests that it makes.
 use Rattle.std.proofs.Common.{rules, arith, ◌≡◌, ◌≢◌, ◌↔◌, ◌⊎◌, inl, inr, ◌≤ℤ◌, ◌<ℤ◌, ◌<◌, ◌^◌, ◌%◌, ◌-◌, ◌≤◌, refl, sym, ◌∙◌, ap, ℤ, ℕ, suc, pos, negsuc}
 use Rattle.std.specs.Prelude.{Ok, Err, IsTrue, nat_le, nat_lt, unsigned_abs, Bool, true, false, not, ◌&&◌, if◌then◌else◌}
-use Rattle.std.specs.Int.{w32, w64, cast_signed}
-use Rattle.std.proofs.Math.Nat.{pow-le-pow_right}
+use Rattle.std.specs.Int.{Width, w32, w64, cast_signed, int_wrap}
+use Rattle.std.proofs.Math.Nat.{pow-le-pow_right, mod-eq_of_lt}
+use Rattle.std.proofs.lemmas.Nat.{pow_pos}
 use Rattle.std.proofs.Common.{lt_of_lt_of_le, lit<}
 use Rattle.ooo_value.specs.declared.kinds.Kind.{Kind}
 use Rattle.ooo_value.specs.declared.kinds.Kind.TheVariants as kind
-use Rattle.ooo_value.specs.declared.operators.Op.{Op}
-use Rattle.ooo_value.specs.declared.operators.Op.TheVariants as op
 use Rattle.ooo_value.specs.declared.operators.Fault.{Fault}
 use Rattle.ooo_value.specs.declared.operators.Fault.TheVariants as fault
 use Rattle.ooo_value.specs.declared.values.Value.{Value}
 use Rattle.ooo_value.specs.Kinds.{common_kind, width_of}
-use Rattle.ooo_value.specs.Operators.{Answer, amount_of, binary_of, shifted_by}
-use Rattle.ooo_value.specs.Faults.{Overflows, DividesByZero, ShiftsTooFar}
+use Rattle.ooo_value.specs.Operators.{Answer, Class, Sum, Quotient, Bits, Shift, Comparison, amount_of, answer_of, shifted_by}
+use Rattle.ooo_value.specs.Faults.{OverflowsIn, IsAmount, divides, shifts}
 use Rattle.ooo_value.specs.Values.{kind_of, number_of, number_in, value_of, is_in_range, is_nonzero, residue}
-use Rattle.ooo_value.proofs.Wraps.{int_wrap_32, int_wrap_64, residue-lt_32, residue-lt_64}
+use Rattle.ooo_value.proofs.Wraps.{int_wrap_is, residue-lt}
+use mir.Val.{bits, hbits}
 
 -- an integer below 2 ^ width is a multiple of it only where it is 0
-residue-zero_32 : (z : ℤ) → unsigned_abs z < 2 ^ 32 → is_nonzero (pos (residue 32 z)) ≡ is_nonzero z
-residue-zero_32 (pos n) h = let e : n % 2 ^ 32 ≡ n = omega arith in ap (λ k. is_nonzero (pos k)) e
-residue-zero_32 (negsuc n) h = let g : 0 < 2 ^ 32 - 1 - n % 2 ^ 32 = omega arith in search rules
-
-residue-zero_64 : (z : ℤ) → unsigned_abs z < 2 ^ 64 → is_nonzero (pos (residue 64 z)) ≡ is_nonzero z
-residue-zero_64 (pos n) h = let e : n % 2 ^ 64 ≡ n = omega arith in ap (λ k. is_nonzero (pos k)) e
-residue-zero_64 (negsuc n) h = let g : 0 < 2 ^ 64 - 1 - n % 2 ^ 64 = omega arith in search rules
+residue-zero : (k : ℕ) (z : ℤ) → unsigned_abs z < 2 ^ k → is_nonzero (pos (residue k z)) ≡ is_nonzero z
+residue-zero k (pos n) h = ap (λ m. is_nonzero (pos m)) (mod-eq_of_lt h)
+residue-zero k (negsuc n) h =
+    let l : n < 2 ^ k = omega arith in
+    let e : n % 2 ^ k ≡ n = mod-eq_of_lt l in
+    let g : 0 < 2 ^ k - 1 - n % 2 ^ k = omega arith in
+    search rules
 
 -- bits are all 0 however they are read
-read-zero_32 : (r : ℕ) → r < 2 ^ 32 → is_nonzero (cast_signed w32 r) ≡ is_nonzero (pos r)
-read-zero_32 r h = at (nat_lt r (2 ^ 31)) refl
+read-zero : (w : Width) (r : ℕ) → r < 2 ^ bits w → is_nonzero (cast_signed w r) ≡ is_nonzero (pos r)
+read-zero w r h = at (nat_lt r (2 ^ hbits w)) refl
   where
-    at : (low : Bool) → nat_lt r (2 ^ 31) ≡ low → is_nonzero (if low then pos r else negsuc (2 ^ 32 - suc r)) ≡ is_nonzero (pos r)
+    at : (low : Bool) → nat_lt r (2 ^ hbits w) ≡ low → is_nonzero (if low then pos r else negsuc (2 ^ bits w - suc r)) ≡ is_nonzero (pos r)
     at true e = refl
-    at false e = let g : 0 < r = grind arith in search rules
-
-read-zero_64 : (r : ℕ) → r < 2 ^ 64 → is_nonzero (cast_signed w64 r) ≡ is_nonzero (pos r)
-read-zero_64 r h = at (nat_lt r (2 ^ 63)) refl
-  where
-    at : (low : Bool) → nat_lt r (2 ^ 63) ≡ low → is_nonzero (if low then pos r else negsuc (2 ^ 64 - suc r)) ≡ is_nonzero (pos r)
-    at true e = refl
-    at false e = let g : 0 < r = grind arith in search rules
+    at false e = let g : 0 < r = grind (arith, pow_pos (hbits w)) in search rules
 
 -- so such an integer is 0 in a kind of that width only where it is 0
+wrap-zero : (w : Width) (z : ℤ) → unsigned_abs z < 2 ^ bits w → is_nonzero (int_wrap w z) ≡ is_nonzero z
+wrap-zero w z h = ap is_nonzero (int_wrap_is w z) ∙ read-zero w (residue (bits w) z) (residue-lt (bits w) z) ∙ residue-zero (bits w) z h
+
 value-zero : (k : Kind) (z : ℤ) → k ≢ kind.Bool → unsigned_abs z < 2 ^ width_of k → is_nonzero (number_of (value_of k z)) ≡ is_nonzero z
 value-zero kind.Bool z n h = absurd (n refl)
-value-zero kind.Int z n h = ap is_nonzero (int_wrap_32 z) ∙ read-zero_32 (residue 32 z) (residue-lt_32 z) ∙ residue-zero_32 z h
-value-zero kind.Uint z n h = residue-zero_32 z h
-value-zero kind.Long z n h = ap is_nonzero (int_wrap_64 z) ∙ read-zero_64 (residue 64 z) (residue-lt_64 z) ∙ residue-zero_64 z h
-value-zero kind.Ulong z n h = residue-zero_64 z h
+value-zero kind.Int z n h = wrap-zero w32 z h
+value-zero kind.Uint z n h = residue-zero 32 z h
+value-zero kind.Long z n h = wrap-zero w64 z h
+value-zero kind.Ulong z n h = residue-zero 64 z h
 
 -- an integer of a kind is below 2 ^ width
 magnitude : (k : Kind) (z : ℤ) → IsTrue (is_in_range k z) → unsigned_abs z < 2 ^ width_of k
@@ -75,23 +71,12 @@ right-zero a b h =
     let m : unsigned_abs (number_of b) < 2 ^ width_of (kind_of b) = magnitude (kind_of b) (number_of b) h in
     value-zero (common_kind a (kind_of b)) (number_of b) (common-no_bool a (kind_of b)) (lt_of_lt_of_le m (pow-le-pow_right (lit< tt) (common-wide a (kind_of b))))
 
-pub binary-overflow : (o : Op) (a b : Value) → (binary_of o a b ≡ Err fault.Overflow) ↔ Overflows o a b
-binary-overflow op.Add a b = search rules
-binary-overflow op.Subtract a b = search rules
-binary-overflow op.Multiply a b = search rules
-binary-overflow op.Divide a b = search rules
-binary-overflow op.Remainder a b = search rules
-binary-overflow op.BitAnd a b = search rules
-binary-overflow op.BitOr a b = search rules
-binary-overflow op.BitXor a b = search rules
-binary-overflow op.ShiftLeft a b = search rules
-binary-overflow op.ShiftRight a b = search rules
-binary-overflow op.Equal a b = search rules
-binary-overflow op.NotEqual a b = search rules
-binary-overflow op.Less a b = search rules
-binary-overflow op.LessOrEqual a b = search rules
-binary-overflow op.Greater a b = search rules
-binary-overflow op.GreaterOrEqual a b = search rules
+pub answer-overflow : (c : Class) (a b : Value) → (answer_of c a b ≡ Err fault.Overflow) ↔ OverflowsIn c a b
+answer-overflow (Sum f) a b = search rules
+answer-overflow (Quotient f) a b = search rules
+answer-overflow (Bits f) a b = search rules
+answer-overflow (Shift f) a b = search rules
+answer-overflow (Comparison f) a b = search rules
 
 -- a result that may overflow, one that may also have no divisor, and a shift
 abbrev sum_of : Bool → Bool → Value → Answer
@@ -118,78 +103,34 @@ shift-only : (near : Bool) (n : ℕ) (f : ℕ → Value) (e : Fault) → shift_b
 shift-only true n f e h = absurd cc
 shift-only false n f e h = cc
 
--- the faults that an operator may answer
-abbrev Answers : Op → Fault → Type 0
-Answers op.Add e = e ≡ fault.Overflow
-Answers op.Subtract e = e ≡ fault.Overflow
-Answers op.Multiply e = e ≡ fault.Overflow
-Answers op.Divide e = (e ≡ fault.Overflow) ⊎ (e ≡ fault.DivideByZero)
-Answers op.Remainder e = (e ≡ fault.Overflow) ⊎ (e ≡ fault.DivideByZero)
-Answers op.BitAnd e = ⊥
-Answers op.BitOr e = ⊥
-Answers op.BitXor e = ⊥
-Answers op.ShiftLeft e = e ≡ fault.ShiftRange
-Answers op.ShiftRight e = e ≡ fault.ShiftRange
-Answers op.Equal e = ⊥
-Answers op.NotEqual e = ⊥
-Answers op.Less e = ⊥
-Answers op.LessOrEqual e = ⊥
-Answers op.Greater e = ⊥
-Answers op.GreaterOrEqual e = ⊥
+-- the faults that a class of operators may answer
+abbrev Answers : Class → Fault → Type 0
+Answers (Sum f) e = e ≡ fault.Overflow
+Answers (Quotient f) e = (e ≡ fault.Overflow) ⊎ (e ≡ fault.DivideByZero)
+Answers (Bits f) e = ⊥
+Answers (Shift f) e = e ≡ fault.ShiftRange
+Answers (Comparison f) e = ⊥
 
-binary-only : (o : Op) (a b : Value) (e : Fault) → binary_of o a b ≡ Err e → Answers o e
-binary-only op.Add a b e h = sum-only _ _ _ e h
-binary-only op.Subtract a b e h = sum-only _ _ _ e h
-binary-only op.Multiply a b e h = sum-only _ _ _ e h
-binary-only op.Divide a b e h = quotient-only _ _ _ _ e h
-binary-only op.Remainder a b e h = quotient-only _ _ _ _ e h
-binary-only op.BitAnd a b e h = cc
-binary-only op.BitOr a b e h = cc
-binary-only op.BitXor a b e h = cc
-binary-only op.ShiftLeft a b e h = shift-only _ _ _ e h
-binary-only op.ShiftRight a b e h = shift-only _ _ _ e h
-binary-only op.Equal a b e h = cc
-binary-only op.NotEqual a b e h = cc
-binary-only op.Less a b e h = cc
-binary-only op.LessOrEqual a b e h = cc
-binary-only op.Greater a b e h = cc
-binary-only op.GreaterOrEqual a b e h = cc
+answer-only : (c : Class) (a b : Value) (e : Fault) → answer_of c a b ≡ Err e → Answers c e
+answer-only (Sum f) a b e h = sum-only _ _ _ e h
+answer-only (Quotient f) a b e h = quotient-only _ _ _ _ e h
+answer-only (Bits f) a b e h = cc
+answer-only (Shift f) a b e h = shift-only _ _ _ e h
+answer-only (Comparison f) a b e h = cc
 
-pub binary-no_index_range : (o : Op) (a b : Value) → binary_of o a b ≢ Err fault.IndexRange
-binary-no_index_range op.Add a b h = let e : _ ≡ _ = binary-only op.Add a b fault.IndexRange h in cc
-binary-no_index_range op.Subtract a b h = let e : _ ≡ _ = binary-only op.Subtract a b fault.IndexRange h in cc
-binary-no_index_range op.Multiply a b h = let e : _ ≡ _ = binary-only op.Multiply a b fault.IndexRange h in cc
-binary-no_index_range op.Divide a b h = elim (binary-only op.Divide a b fault.IndexRange h) [ inl e ↦ cc | inr e ↦ cc ]
-binary-no_index_range op.Remainder a b h = elim (binary-only op.Remainder a b fault.IndexRange h) [ inl e ↦ cc | inr e ↦ cc ]
-binary-no_index_range op.BitAnd a b h = binary-only op.BitAnd a b fault.IndexRange h
-binary-no_index_range op.BitOr a b h = binary-only op.BitOr a b fault.IndexRange h
-binary-no_index_range op.BitXor a b h = binary-only op.BitXor a b fault.IndexRange h
-binary-no_index_range op.ShiftLeft a b h = let e : _ ≡ _ = binary-only op.ShiftLeft a b fault.IndexRange h in cc
-binary-no_index_range op.ShiftRight a b h = let e : _ ≡ _ = binary-only op.ShiftRight a b fault.IndexRange h in cc
-binary-no_index_range op.Equal a b h = binary-only op.Equal a b fault.IndexRange h
-binary-no_index_range op.NotEqual a b h = binary-only op.NotEqual a b fault.IndexRange h
-binary-no_index_range op.Less a b h = binary-only op.Less a b fault.IndexRange h
-binary-no_index_range op.LessOrEqual a b h = binary-only op.LessOrEqual a b fault.IndexRange h
-binary-no_index_range op.Greater a b h = binary-only op.Greater a b fault.IndexRange h
-binary-no_index_range op.GreaterOrEqual a b h = binary-only op.GreaterOrEqual a b fault.IndexRange h
+no_other : (c : Class) (e : Fault) → e ≢ fault.Overflow → e ≢ fault.DivideByZero → e ≢ fault.ShiftRange → Answers c e → ⊥
+no_other (Sum f) e o d s h = o h
+no_other (Quotient f) e o d s (inl h) = o h
+no_other (Quotient f) e o d s (inr h) = d h
+no_other (Bits f) e o d s h = h
+no_other (Shift f) e o d s h = s h
+no_other (Comparison f) e o d s h = h
 
-pub binary-no_bad_time : (o : Op) (a b : Value) → binary_of o a b ≢ Err fault.BadTime
-binary-no_bad_time op.Add a b h = let e : _ ≡ _ = binary-only op.Add a b fault.BadTime h in cc
-binary-no_bad_time op.Subtract a b h = let e : _ ≡ _ = binary-only op.Subtract a b fault.BadTime h in cc
-binary-no_bad_time op.Multiply a b h = let e : _ ≡ _ = binary-only op.Multiply a b fault.BadTime h in cc
-binary-no_bad_time op.Divide a b h = elim (binary-only op.Divide a b fault.BadTime h) [ inl e ↦ cc | inr e ↦ cc ]
-binary-no_bad_time op.Remainder a b h = elim (binary-only op.Remainder a b fault.BadTime h) [ inl e ↦ cc | inr e ↦ cc ]
-binary-no_bad_time op.BitAnd a b h = binary-only op.BitAnd a b fault.BadTime h
-binary-no_bad_time op.BitOr a b h = binary-only op.BitOr a b fault.BadTime h
-binary-no_bad_time op.BitXor a b h = binary-only op.BitXor a b fault.BadTime h
-binary-no_bad_time op.ShiftLeft a b h = let e : _ ≡ _ = binary-only op.ShiftLeft a b fault.BadTime h in cc
-binary-no_bad_time op.ShiftRight a b h = let e : _ ≡ _ = binary-only op.ShiftRight a b fault.BadTime h in cc
-binary-no_bad_time op.Equal a b h = binary-only op.Equal a b fault.BadTime h
-binary-no_bad_time op.NotEqual a b h = binary-only op.NotEqual a b fault.BadTime h
-binary-no_bad_time op.Less a b h = binary-only op.Less a b fault.BadTime h
-binary-no_bad_time op.LessOrEqual a b h = binary-only op.LessOrEqual a b fault.BadTime h
-binary-no_bad_time op.Greater a b h = binary-only op.Greater a b fault.BadTime h
-binary-no_bad_time op.GreaterOrEqual a b h = binary-only op.GreaterOrEqual a b fault.BadTime h
+pub answer-no_index_range : (c : Class) (a b : Value) → answer_of c a b ≢ Err fault.IndexRange
+answer-no_index_range c a b h = no_other c fault.IndexRange (λ e. cc) (λ e. cc) (λ e. cc) (answer-only c a b fault.IndexRange h)
+
+pub answer-no_bad_time : (c : Class) (a b : Value) → answer_of c a b ≢ Err fault.BadTime
+answer-no_bad_time c a b h = no_other c fault.BadTime (λ e. cc) (λ e. cc) (λ e. cc) (answer-only c a b fault.BadTime h)
 
 -- an amount is out of range exactly where it is no amount
 shift-range : (width : ℕ) (z : ℤ) (f : ℕ → Value) → (shifted_by (amount_of width z) f ≡ Err fault.ShiftRange) ↔ (¬ ((pos 0 ≤ℤ z) × (z <ℤ pos width)))
@@ -200,23 +141,12 @@ shift-range width (pos n) f = at (nat_le 0 n && nat_lt n width) refl
     at false e = (λ h g. absurd (search rules), λ g. refl)
 shift-range width (negsuc n) f = (λ h g. absurd (search rules), λ g. refl)
 
-pub binary-shift_range : (o : Op) (a b : Value) → (binary_of o a b ≡ Err fault.ShiftRange) ↔ ShiftsTooFar o a b
-binary-shift_range op.Add a b = (λ h. let e : _ ≡ _ = binary-only op.Add a b fault.ShiftRange h in absurd cc, λ g. absurd cc)
-binary-shift_range op.Subtract a b = (λ h. let e : _ ≡ _ = binary-only op.Subtract a b fault.ShiftRange h in absurd cc, λ g. absurd cc)
-binary-shift_range op.Multiply a b = (λ h. let e : _ ≡ _ = binary-only op.Multiply a b fault.ShiftRange h in absurd cc, λ g. absurd cc)
-binary-shift_range op.Divide a b = (λ h. elim (binary-only op.Divide a b fault.ShiftRange h) [ inl e ↦ absurd cc | inr e ↦ absurd cc ], λ g. absurd cc)
-binary-shift_range op.Remainder a b = (λ h. elim (binary-only op.Remainder a b fault.ShiftRange h) [ inl e ↦ absurd cc | inr e ↦ absurd cc ], λ g. absurd cc)
-binary-shift_range op.BitAnd a b = (λ h. absurd (binary-only op.BitAnd a b fault.ShiftRange h), λ g. absurd cc)
-binary-shift_range op.BitOr a b = (λ h. absurd (binary-only op.BitOr a b fault.ShiftRange h), λ g. absurd cc)
-binary-shift_range op.BitXor a b = (λ h. absurd (binary-only op.BitXor a b fault.ShiftRange h), λ g. absurd cc)
-binary-shift_range op.ShiftLeft a b = let h = shift-range _ (number_of b) _ in (λ e. (refl, h.0 e), λ g. h.1 g.1)
-binary-shift_range op.ShiftRight a b = let h = shift-range _ (number_of b) _ in (λ e. (refl, h.0 e), λ g. h.1 g.1)
-binary-shift_range op.Equal a b = (λ h. absurd (binary-only op.Equal a b fault.ShiftRange h), λ g. absurd cc)
-binary-shift_range op.NotEqual a b = (λ h. absurd (binary-only op.NotEqual a b fault.ShiftRange h), λ g. absurd cc)
-binary-shift_range op.Less a b = (λ h. absurd (binary-only op.Less a b fault.ShiftRange h), λ g. absurd cc)
-binary-shift_range op.LessOrEqual a b = (λ h. absurd (binary-only op.LessOrEqual a b fault.ShiftRange h), λ g. absurd cc)
-binary-shift_range op.Greater a b = (λ h. absurd (binary-only op.Greater a b fault.ShiftRange h), λ g. absurd cc)
-binary-shift_range op.GreaterOrEqual a b = (λ h. absurd (binary-only op.GreaterOrEqual a b fault.ShiftRange h), λ g. absurd cc)
+pub answer-shift_range : (c : Class) (a b : Value) → (answer_of c a b ≡ Err fault.ShiftRange) ↔ (IsTrue (shifts c) × ¬ (IsAmount a b))
+answer-shift_range (Sum f) a b = (λ h. let e : _ ≡ _ = answer-only (Sum f) a b fault.ShiftRange h in absurd cc, λ g. absurd cc)
+answer-shift_range (Quotient f) a b = (λ h. elim (answer-only (Quotient f) a b fault.ShiftRange h) [ inl e ↦ absurd cc | inr e ↦ absurd cc ], λ g. absurd cc)
+answer-shift_range (Bits f) a b = (λ h. absurd (answer-only (Bits f) a b fault.ShiftRange h), λ g. absurd cc)
+answer-shift_range (Shift f) a b = let h = shift-range _ (number_of b) _ in (λ e. (refl, h.0 e), λ g. h.1 g.1)
+answer-shift_range (Comparison f) a b = (λ h. absurd (answer-only (Comparison f) a b fault.ShiftRange h), λ g. absurd cc)
 
 -- a quotient has no divisor exactly where the divisor is 0
 nonzero-false : (z : ℤ) → is_nonzero z ≡ false → z ≡ pos 0
@@ -226,20 +156,9 @@ no_divisor : (signed held : Bool) (z : ℤ) (v : Value) {divisor : Bool} → div
 no_divisor signed held z v {divisor = true} e = (λ h. let o : _ ≡ _ = sum-only signed held v fault.DivideByZero h in absurd cc, λ g. let c : true ≡ false = e ∙ ap is_nonzero g.1 in absurd cc)
 no_divisor signed held z v {divisor = false} e = (λ h. (refl, nonzero-false z (sym e)), λ g. refl)
 
-pub binary-divide_by_zero : (o : Op) (a b : Value) → IsTrue (is_in_range (kind_of b) (number_of b)) → (binary_of o a b ≡ Err fault.DivideByZero) ↔ DividesByZero o b
-binary-divide_by_zero op.Add a b r = (λ h. let e : _ ≡ _ = binary-only op.Add a b fault.DivideByZero h in absurd cc, λ g. absurd cc)
-binary-divide_by_zero op.Subtract a b r = (λ h. let e : _ ≡ _ = binary-only op.Subtract a b fault.DivideByZero h in absurd cc, λ g. absurd cc)
-binary-divide_by_zero op.Multiply a b r = (λ h. let e : _ ≡ _ = binary-only op.Multiply a b fault.DivideByZero h in absurd cc, λ g. absurd cc)
-binary-divide_by_zero op.Divide a b r = no_divisor _ _ (number_of b) _ (right-zero (kind_of a) b r)
-binary-divide_by_zero op.Remainder a b r = no_divisor _ _ (number_of b) _ (right-zero (kind_of a) b r)
-binary-divide_by_zero op.BitAnd a b r = (λ h. absurd (binary-only op.BitAnd a b fault.DivideByZero h), λ g. absurd cc)
-binary-divide_by_zero op.BitOr a b r = (λ h. absurd (binary-only op.BitOr a b fault.DivideByZero h), λ g. absurd cc)
-binary-divide_by_zero op.BitXor a b r = (λ h. absurd (binary-only op.BitXor a b fault.DivideByZero h), λ g. absurd cc)
-binary-divide_by_zero op.ShiftLeft a b r = (λ h. let e : _ ≡ _ = binary-only op.ShiftLeft a b fault.DivideByZero h in absurd cc, λ g. absurd cc)
-binary-divide_by_zero op.ShiftRight a b r = (λ h. let e : _ ≡ _ = binary-only op.ShiftRight a b fault.DivideByZero h in absurd cc, λ g. absurd cc)
-binary-divide_by_zero op.Equal a b r = (λ h. absurd (binary-only op.Equal a b fault.DivideByZero h), λ g. absurd cc)
-binary-divide_by_zero op.NotEqual a b r = (λ h. absurd (binary-only op.NotEqual a b fault.DivideByZero h), λ g. absurd cc)
-binary-divide_by_zero op.Less a b r = (λ h. absurd (binary-only op.Less a b fault.DivideByZero h), λ g. absurd cc)
-binary-divide_by_zero op.LessOrEqual a b r = (λ h. absurd (binary-only op.LessOrEqual a b fault.DivideByZero h), λ g. absurd cc)
-binary-divide_by_zero op.Greater a b r = (λ h. absurd (binary-only op.Greater a b fault.DivideByZero h), λ g. absurd cc)
-binary-divide_by_zero op.GreaterOrEqual a b r = (λ h. absurd (binary-only op.GreaterOrEqual a b fault.DivideByZero h), λ g. absurd cc)
+pub answer-divide_by_zero : (c : Class) (a b : Value) → IsTrue (is_in_range (kind_of b) (number_of b)) → (answer_of c a b ≡ Err fault.DivideByZero) ↔ (IsTrue (divides c) × (number_of b ≡ pos 0))
+answer-divide_by_zero (Sum f) a b r = (λ h. let e : _ ≡ _ = answer-only (Sum f) a b fault.DivideByZero h in absurd cc, λ g. absurd cc)
+answer-divide_by_zero (Quotient f) a b r = no_divisor _ _ (number_of b) _ (right-zero (kind_of a) b r)
+answer-divide_by_zero (Bits f) a b r = (λ h. absurd (answer-only (Bits f) a b fault.DivideByZero h), λ g. absurd cc)
+answer-divide_by_zero (Shift f) a b r = (λ h. let e : _ ≡ _ = answer-only (Shift f) a b fault.DivideByZero h in absurd cc, λ g. absurd cc)
+answer-divide_by_zero (Comparison f) a b r = (λ h. absurd (answer-only (Comparison f) a b fault.DivideByZero h), λ g. absurd cc)

@@ -10,7 +10,7 @@ use Rattle.ooo_value.specs.declared.kinds.Kind.TheVariants as kind
 use Rattle.ooo_value.specs.declared.operators.Fault.TheVariants as fault
 use Rattle.ooo_value.specs.declared.values.Value.{Value}
 use Rattle.ooo_value.specs.Kinds.{promoted_kind}
-use Rattle.ooo_value.specs.Operators.{IsFloor, right_shift_of, shifted_by}
+use Rattle.ooo_value.specs.Operators.{IsFloor, shift_of, shifted_by}
 use Rattle.ooo_value.specs.Values.{is_in_range, kind_of, number_of, value_of}
 
 pub fits_32 : (z : ℤ) → IsTrue (is_in_range kind.Int z) → FitsSigned w32 z
@@ -76,7 +76,7 @@ promoted-no_bool : (k : Kind) → promoted_kind k ≢ kind.Bool
 promoted-no_bool k h = search rules
 
 -- `>>` of a value is rounding down
-pub right_shift-floor : (v by : Value) → IsTrue (is_in_range (kind_of v) (number_of v)) → IfOk (right_shift_of v by) (λ w. IsFloor (number_of v) (2 ^ unsigned_abs (number_of by)) (number_of w))
+pub right_shift-floor : (v by : Value) → IsTrue (is_in_range (kind_of v) (number_of v)) → IfOk (shift_of int_shr v by) (λ w. IsFloor (number_of v) (2 ^ unsigned_abs (number_of by)) (number_of w))
 right_shift-floor v by h = at _ (unsigned_abs (number_of by))
   where
     k : Kind

@@ -1,16 +1,13 @@
 -- Operands that already are of one kind.
-use Rattle.std.proofs.Common.{rules, ◌≡◌, refl, sym, ℤ, ◌+ℤ◌, ◌-ℤ◌, ◌*ℤ◌, bit_and, bit_or, bit_xor}
-use Rattle.std.specs.Prelude.{Ok, IsFalse, not, int_lt, int_le}
-use Rattle.std.specs.Ordering.{int_eq}
+use Rattle.std.proofs.Common.{rules, ◌≡◌, refl, sym, ℤ}
+use Rattle.std.specs.Prelude.{Ok, IsFalse}
 use Rattle.ooo_value.specs.declared.kinds.Kind.{Kind}
 use Rattle.ooo_value.specs.declared.kinds.Kind.TheVariants as kind
-use Rattle.ooo_value.specs.declared.operators.Op.{Op}
-use Rattle.ooo_value.specs.declared.operators.Op.TheVariants as op
 use Rattle.ooo_value.specs.declared.values.Value.{Value}
 use Rattle.ooo_value.specs.declared.values.Value.TheVariants as value
-use Rattle.ooo_value.specs.Faults.{is_shift}
+use Rattle.ooo_value.specs.Faults.{shifts}
 use Rattle.ooo_value.specs.Kinds.{common_kind, promoted_kind}
-use Rattle.ooo_value.specs.Operators.{Answer, binary_of, bitwise, in_common, quotient_in, remainder_in, result_in}
+use Rattle.ooo_value.specs.Operators.{Answer, Class, Sum, Quotient, Bits, Shift, Comparison, answer_of, bitwise, divided_in, in_common, result_in}
 use Rattle.ooo_value.specs.Values.{conversion_of, kind_of, number_of, value_of}
 use Rattle.ooo_value.proofs.Conversions.{kind_of-value_of, value_of-again}
 
@@ -34,20 +31,9 @@ in_common-conversion : (f : Kind → ℤ → ℤ → Answer) (a b : Value) → i
 in_common-conversion f a b = sym (of_one_kind f (common_kind (kind_of a) (kind_of b)) (number_of a) (number_of b) (common-again (kind_of a) (kind_of b)))
 
 -- and so are those of each operator other than a shift
-pub binary_of-conversion : (o : Op) (a b : Value) → IsFalse (is_shift o) → binary_of o a b ≡ binary_of o (conversion_of a (common_kind (kind_of a) (kind_of b))) (conversion_of b (common_kind (kind_of a) (kind_of b)))
-binary_of-conversion op.Add a b h = in_common-conversion (λ k x y. result_in k (x +ℤ y)) a b
-binary_of-conversion op.Subtract a b h = in_common-conversion (λ k x y. result_in k (x -ℤ y)) a b
-binary_of-conversion op.Multiply a b h = in_common-conversion (λ k x y. result_in k (x *ℤ y)) a b
-binary_of-conversion op.Divide a b h = in_common-conversion quotient_in a b
-binary_of-conversion op.Remainder a b h = in_common-conversion remainder_in a b
-binary_of-conversion op.BitAnd a b h = in_common-conversion (λ k x y. Ok (bitwise bit_and k x y)) a b
-binary_of-conversion op.BitOr a b h = in_common-conversion (λ k x y. Ok (bitwise bit_or k x y)) a b
-binary_of-conversion op.BitXor a b h = in_common-conversion (λ k x y. Ok (bitwise bit_xor k x y)) a b
-binary_of-conversion op.ShiftLeft a b h = absurd cc
-binary_of-conversion op.ShiftRight a b h = absurd cc
-binary_of-conversion op.Equal a b h = in_common-conversion (λ k x y. Ok (value.Bool (int_eq x y))) a b
-binary_of-conversion op.NotEqual a b h = in_common-conversion (λ k x y. Ok (value.Bool (not (int_eq x y)))) a b
-binary_of-conversion op.Less a b h = in_common-conversion (λ k x y. Ok (value.Bool (int_lt x y))) a b
-binary_of-conversion op.LessOrEqual a b h = in_common-conversion (λ k x y. Ok (value.Bool (int_le x y))) a b
-binary_of-conversion op.Greater a b h = in_common-conversion (λ k x y. Ok (value.Bool (int_lt y x))) a b
-binary_of-conversion op.GreaterOrEqual a b h = in_common-conversion (λ k x y. Ok (value.Bool (int_le y x))) a b
+pub answer_of-conversion : (c : Class) (a b : Value) → IsFalse (shifts c) → answer_of c a b ≡ answer_of c (conversion_of a (common_kind (kind_of a) (kind_of b))) (conversion_of b (common_kind (kind_of a) (kind_of b)))
+answer_of-conversion (Sum f) a b h = in_common-conversion (λ k x y. result_in k (f x y)) a b
+answer_of-conversion (Quotient f) a b h = in_common-conversion (divided_in f) a b
+answer_of-conversion (Bits f) a b h = in_common-conversion (λ k x y. Ok (bitwise f k x y)) a b
+answer_of-conversion (Shift f) a b h = absurd cc
+answer_of-conversion (Comparison f) a b h = in_common-conversion (λ k x y. Ok (value.Bool (f x y))) a b

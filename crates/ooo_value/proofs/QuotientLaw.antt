@@ -10,7 +10,7 @@ use Rattle.ooo_value.specs.declared.operators.Op.TheVariants as op
 use Rattle.ooo_value.specs.declared.operators.Fault.TheVariants as fault
 use Rattle.ooo_value.specs.declared.values.Value.{Value}
 use Rattle.ooo_value.specs.Kinds.{common_kind, is_signed}
-use Rattle.ooo_value.specs.Operators.{IsQuotientAndRest, binary_of, quotient_in, remainder_in}
+use Rattle.ooo_value.specs.Operators.{IsQuotientAndRest, binary_of, divided_in}
 use Rattle.ooo_value.specs.Values.{is_in_range, is_nonzero, kind_of, number_in, number_of, value_of}
 use Rattle.ooo_value.proofs.Causes.{common-no_bool}
 use Rattle.ooo_value.proofs.Conversions.{in_range_32, in_range_64, value_in_range}
@@ -47,7 +47,7 @@ rem-sign (negsuc a) y = by_rest (suc a % unsigned_abs y)
     by_rest (suc r) = omega (arith, ints)
 
 -- what an answer of `/` is
-quotient-is : (k : Kind) (x y : ℤ) (q : Value) → k ≢ kind.Bool → IsTrue (is_in_range k x) → IsTrue (is_in_range k y) → quotient_in k x y ≡ Ok q → (is_nonzero y ≡ true) × (number_of q ≡ int_div x y)
+quotient-is : (k : Kind) (x y : ℤ) (q : Value) → k ≢ kind.Bool → IsTrue (is_in_range k x) → IsTrue (is_in_range k y) → divided_in int_div k x y ≡ Ok q → (is_nonzero y ≡ true) × (number_of q ≡ int_div x y)
 quotient-is k x y q b h g e = at (is_nonzero y) (is_signed k) (is_in_range k (int_div x y)) refl refl refl e
   where
     at : (n s r : Bool) → is_nonzero y ≡ n → is_signed k ≡ s → is_in_range k (int_div x y) ≡ r → (if n then (if s && not r then Err fault.Overflow else Ok (value_of k (int_div x y))) else Err fault.DivideByZero) ≡ Ok q → (is_nonzero y ≡ true) × (number_of q ≡ int_div x y)
@@ -57,7 +57,7 @@ quotient-is k x y q b h g e = at (is_nonzero y) (is_signed k) (is_in_range k (in
     at false s r n _ _ e = absurd cc
 
 -- what an answer of `%` is
-rest-is : (k : Kind) (x y : ℤ) (r : Value) → k ≢ kind.Bool → IsTrue (is_in_range k x) → remainder_in k x y ≡ Ok r → number_of r ≡ int_rem x y
+rest-is : (k : Kind) (x y : ℤ) (r : Value) → k ≢ kind.Bool → IsTrue (is_in_range k x) → divided_in int_rem k x y ≡ Ok r → number_of r ≡ int_rem x y
 rest-is k x y r b h e = at (is_nonzero y) (is_signed k && not (is_in_range k (int_div x y))) e
   where
     at : (n o : Bool) → (if n then (if o then Err fault.Overflow else Ok (value_of k (int_rem x y))) else Err fault.DivideByZero) ≡ Ok r → number_of r ≡ int_rem x y
@@ -69,7 +69,7 @@ nonzero-abs : (y : ℤ) → is_nonzero y ≡ true → 0 < unsigned_abs y
 nonzero-abs (pos n) h = search rules
 nonzero-abs (negsuc n) h = omega arith
 
-both : (k : Kind) (x y : ℤ) (q r : Value) → k ≢ kind.Bool → IsTrue (is_in_range k x) → IsTrue (is_in_range k y) → quotient_in k x y ≡ Ok q → remainder_in k x y ≡ Ok r → IsQuotientAndRest x y (number_of q) (number_of r)
+both : (k : Kind) (x y : ℤ) (q r : Value) → k ≢ kind.Bool → IsTrue (is_in_range k x) → IsTrue (is_in_range k y) → divided_in int_div k x y ≡ Ok q → divided_in int_rem k x y ≡ Ok r → IsQuotientAndRest x y (number_of q) (number_of r)
 both k x y q r b h g e f =
     let i = quotient-is k x y q b h g e in
     rw (i.1, rest-is k x y r b h f) (quot-rem x y, rem_below x y (nonzero-abs y i.0), rem-sign x y)

@@ -1,101 +1,76 @@
--- What wrapping leaves of an integer, by its bits.
-use Rattle.std.proofs.Common.{◌≡◌, ℕ, ◌*◌, ◌%◌, ◌^◌, ◌<◌, refl, sym, ◌∙◌, ap, arith, ℤ, pos, negsuc, ◌*ℤ◌, FitsSigned, bit_and, bit_or, bit_xor}
-use Rattle.std.specs.Int.{w32, w64, cast_signed, cast_unsigned, int_wrap}
+-- What wrapping leaves of an integer, by its bits, at each width.
+use Rattle.std.proofs.Common.{◌≡◌, ℕ, ◌+◌, ◌*◌, ◌%◌, ◌^◌, ◌<◌, refl, sym, ◌∙◌, ap, arith, ℤ, pos, negsuc, ◌*ℤ◌, FitsSigned, bit_and, bit_or, bit_xor}
+use Rattle.std.specs.Int.{Width, w8, w16, w32, w64, w128, cast_signed, cast_unsigned, int_wrap}
 use Rattle.std.specs.Int.Bits.{and_lt}
+use Rattle.std.proofs.Math.Nat.{mod-lt, mod-eq_of_lt}
 use Rattle.std.proofs.Math.Pow.{pow-lt}
-use Rattle.std.proofs.lemmas.Nat.{or_lt, xor_lt}
+use Rattle.std.proofs.lemmas.Nat.{pow_pos, or_lt, xor_lt}
 use Rattle.std.proofs.lemmas.Int.{to_z-of_z, wrapping_mul-bits, int_wrap-mul_right}
+use mir.Val.{bits, hbits}
 use Rattle.ooo_value.specs.Values.{residue}
 
--- an int is its residue's bits read with a sign
-pub int_wrap_32 : (z : ℤ) → int_wrap w32 z ≡ cast_signed w32 (residue 32 z)
+-- half of what a width holds has a sign
+pub halves : (w : Width) → 2 ^ bits w ≡ 2 ^ hbits w + 2 ^ hbits w
+halves w8 = refl
+halves w16 = refl
+halves w32 = refl
+halves w64 = refl
+halves w128 = refl
+
+-- a wrapped integer is its residue's bits read with a sign
+pub int_wrap_is : (w : Width) (z : ℤ) → int_wrap w z ≡ cast_signed w (residue (bits w) z)
 unfolding int_wrap
-int_wrap_32 z = refl
-
--- so is a long long
-pub int_wrap_64 : (z : ℤ) → int_wrap w64 z ≡ cast_signed w64 (residue 64 z)
-unfolding int_wrap
-int_wrap_64 z = refl
-
--- the bits of an int are its residue
-pub bits_32 : (z : ℤ) → FitsSigned w32 z → cast_unsigned w32 z ≡ residue 32 z
-bits_32 (pos n) f = let h : n < 2 ^ 31 = f.sfits in omega arith
-bits_32 (negsuc n) f = let h : n < 2 ^ 31 = f.sfits in omega arith
-
--- so are those of a long long
-pub bits_64 : (z : ℤ) → FitsSigned w64 z → cast_unsigned w64 z ≡ residue 64 z
-bits_64 (pos n) f = let h : n < 2 ^ 63 = f.sfits in omega arith
-bits_64 (negsuc n) f = let h : n < 2 ^ 63 = f.sfits in omega arith
-
--- 32 bits read with a sign are what is left of their number
-pub read_32 : (n : ℕ) → n < 2 ^ 32 → cast_signed w32 n ≡ int_wrap w32 (pos n)
-read_32 n h = let e : n % 2 ^ 32 ≡ n = omega arith in ap (cast_signed w32) (sym e) ∙ sym (int_wrap_32 (pos n))
-
--- and so are 64
-pub read_64 : (n : ℕ) → n < 2 ^ 64 → cast_signed w64 n ≡ int_wrap w64 (pos n)
-read_64 n h = let e : n % 2 ^ 64 ≡ n = omega arith in ap (cast_signed w64) (sym e) ∙ sym (int_wrap_64 (pos n))
+int_wrap_is w z = refl
 
 -- a residue is below its power of two
-pub residue-lt_32 : (z : ℤ) → residue 32 z < 2 ^ 32
-residue-lt_32 (pos n) = omega arith
-residue-lt_32 (negsuc n) = omega arith
+pub residue-lt : (k : ℕ) (z : ℤ) → residue k z < 2 ^ k
+residue-lt k (pos n) = mod-lt n (pow_pos k)
+residue-lt k (negsuc n) = omega (arith, pow_pos k)
 
-pub residue-lt_64 : (z : ℤ) → residue 64 z < 2 ^ 64
-residue-lt_64 (pos n) = omega arith
-residue-lt_64 (negsuc n) = omega arith
+-- the bits of a signed integer are its residue
+pub bits_are : (w : Width) (z : ℤ) → FitsSigned w z → cast_unsigned w z ≡ residue (bits w) z
+bits_are w (pos n) f = let l : n < 2 ^ bits w = omega (arith, f.sfits, halves w) in sym (mod-eq_of_lt l)
+bits_are w (negsuc n) f =
+    let l : n < 2 ^ bits w = omega (arith, f.sfits, halves w) in
+    let e : n % 2 ^ bits w ≡ n = mod-eq_of_lt l in
+    omega arith
 
--- `&`, `|` and `^` of two ints, by their residues
-pub and_32 : (x y : ℤ) → FitsSigned w32 x → FitsSigned w32 y → cast_signed w32 (bit_and (cast_unsigned w32 x) (cast_unsigned w32 y)) ≡ int_wrap w32 (pos (bit_and (residue 32 x) (residue 32 y)))
-and_32 x y f g = rw (bits_32 x f, bits_32 y g) (read_32 _ (and_lt 32 (residue 32 x) (residue 32 y) (residue-lt_32 x) (residue-lt_32 y)))
+-- bits read with a sign are what is left of their number
+read : (w : Width) (n : ℕ) → n < 2 ^ bits w → cast_signed w n ≡ int_wrap w (pos n)
+read w n h = ap (cast_signed w) (sym (mod-eq_of_lt h)) ∙ sym (int_wrap_is w (pos n))
 
-pub or_32 : (x y : ℤ) → FitsSigned w32 x → FitsSigned w32 y → cast_signed w32 (bit_or (cast_unsigned w32 x) (cast_unsigned w32 y)) ≡ int_wrap w32 (pos (bit_or (residue 32 x) (residue 32 y)))
-or_32 x y f g = rw (bits_32 x f, bits_32 y g) (read_32 _ (or_lt 32 (residue 32 x) (residue 32 y) (residue-lt_32 x) (residue-lt_32 y)))
+-- an operator on bits makes no longer ones
+abbrev IsBitwise : (ℕ → ℕ → ℕ) → Type 0
+IsBitwise f = (k a b : ℕ) → a < 2 ^ k → b < 2 ^ k → f a b < 2 ^ k
 
-pub xor_32 : (x y : ℤ) → FitsSigned w32 x → FitsSigned w32 y → cast_signed w32 (bit_xor (cast_unsigned w32 x) (cast_unsigned w32 y)) ≡ int_wrap w32 (pos (bit_xor (residue 32 x) (residue 32 y)))
-xor_32 x y f g = rw (bits_32 x f, bits_32 y g) (read_32 _ (xor_lt 32 (residue 32 x) (residue 32 y) (residue-lt_32 x) (residue-lt_32 y)))
+-- such an operator on two signed integers, by their residues
+signed_bits : (w : Width) (f : ℕ → ℕ → ℕ) → IsBitwise f → (x y : ℤ) → FitsSigned w x → FitsSigned w y
+    → cast_signed w (f (cast_unsigned w x) (cast_unsigned w y)) ≡ int_wrap w (pos (f (residue (bits w) x) (residue (bits w) y)))
+signed_bits w f short x y g h = rw (bits_are w x g, bits_are w y h) (read w _ (short (bits w) _ _ (residue-lt (bits w) x) (residue-lt (bits w) y)))
 
--- the same of two long longs
-pub and_64 : (x y : ℤ) → FitsSigned w64 x → FitsSigned w64 y → cast_signed w64 (bit_and (cast_unsigned w64 x) (cast_unsigned w64 y)) ≡ int_wrap w64 (pos (bit_and (residue 64 x) (residue 64 y)))
-and_64 x y f g = rw (bits_64 x f, bits_64 y g) (read_64 _ (and_lt 64 (residue 64 x) (residue 64 y) (residue-lt_64 x) (residue-lt_64 y)))
-
-pub or_64 : (x y : ℤ) → FitsSigned w64 x → FitsSigned w64 y → cast_signed w64 (bit_or (cast_unsigned w64 x) (cast_unsigned w64 y)) ≡ int_wrap w64 (pos (bit_or (residue 64 x) (residue 64 y)))
-or_64 x y f g = rw (bits_64 x f, bits_64 y g) (read_64 _ (or_lt 64 (residue 64 x) (residue 64 y) (residue-lt_64 x) (residue-lt_64 y)))
-
-pub xor_64 : (x y : ℤ) → FitsSigned w64 x → FitsSigned w64 y → cast_signed w64 (bit_xor (cast_unsigned w64 x) (cast_unsigned w64 y)) ≡ int_wrap w64 (pos (bit_xor (residue 64 x) (residue 64 y)))
-xor_64 x y f g = rw (bits_64 x f, bits_64 y g) (read_64 _ (xor_lt 64 (residue 64 x) (residue 64 y) (residue-lt_64 x) (residue-lt_64 y)))
-
--- `|` and `^` of two unsigned long longs
-pub or_u64 : (a b : ℕ) → a < 2 ^ 64 → b < 2 ^ 64 → bit_or a b ≡ residue 64 (pos (bit_or (a % 2 ^ 64) (b % 2 ^ 64)))
-or_u64 a b f g =
-    let e : a % 2 ^ 64 ≡ a = omega arith in
-    let h : b % 2 ^ 64 ≡ b = omega arith in
-    let l : bit_or a b < 2 ^ 64 = or_lt 64 a b f g in
-    rw (e, h) (omega arith)
-
-pub xor_u64 : (a b : ℕ) → a < 2 ^ 64 → b < 2 ^ 64 → bit_xor a b ≡ residue 64 (pos (bit_xor (a % 2 ^ 64) (b % 2 ^ 64)))
-xor_u64 a b f g =
-    let e : a % 2 ^ 64 ≡ a = omega arith in
-    let h : b % 2 ^ 64 ≡ b = omega arith in
-    let l : bit_xor a b < 2 ^ 64 = xor_lt 64 a b f g in
-    rw (e, h) (omega arith)
+-- and on two unsigned ones
+unsigned_bits : (k : ℕ) (f : ℕ → ℕ → ℕ) → IsBitwise f → (a b : ℕ) → a < 2 ^ k → b < 2 ^ k → f a b ≡ residue k (pos (f (a % 2 ^ k) (b % 2 ^ k)))
+unsigned_bits k f short a b g h = rw (mod-eq_of_lt g, mod-eq_of_lt h, mod-eq_of_lt (short k a b g h)) refl
 
 -- for each operator on bits its own
-pub ruleset ands = (and_32, and_64)
+pub signed_and : (w : Width) (x y : ℤ) → FitsSigned w x → FitsSigned w y → cast_signed w (bit_and (cast_unsigned w x) (cast_unsigned w y)) ≡ int_wrap w (pos (bit_and (residue (bits w) x) (residue (bits w) y)))
+signed_and w x y f g = signed_bits w bit_and and_lt x y f g
 
-pub ruleset ors = (or_32, or_64, or_u64)
+pub signed_or : (w : Width) (x y : ℤ) → FitsSigned w x → FitsSigned w y → cast_signed w (bit_or (cast_unsigned w x) (cast_unsigned w y)) ≡ int_wrap w (pos (bit_or (residue (bits w) x) (residue (bits w) y)))
+signed_or w x y f g = signed_bits w bit_or or_lt x y f g
 
-pub ruleset xors = (xor_32, xor_64, xor_u64)
+pub signed_xor : (w : Width) (x y : ℤ) → FitsSigned w x → FitsSigned w y → cast_signed w (bit_xor (cast_unsigned w x) (cast_unsigned w y)) ≡ int_wrap w (pos (bit_xor (residue (bits w) x) (residue (bits w) y)))
+signed_xor w x y f g = signed_bits w bit_xor xor_lt x y f g
 
--- times a power of two, by the bits of an int
-pub shl_32 : (z : ℤ) (n : ℕ) → FitsSigned w32 z → n < 32 → cast_signed w32 ((cast_unsigned w32 z * 2 ^ n) % 2 ^ 32) ≡ int_wrap w32 (z *ℤ pos (2 ^ n))
-shl_32 z n f h =
-    let p : cast_unsigned w32 z < 2 ^ 32 = rw (bits_32 z f) (residue-lt_32 z) in
-    let q : 2 ^ n < 2 ^ 32 = pow-lt h in
-    wrapping_mul-bits w32 (cast_unsigned w32 z) (2 ^ n) p q ∙ rw (to_z-of_z w32 z f, read_32 (2 ^ n) q, int_wrap-mul_right) refl
+pub unsigned_or : (k a b : ℕ) → a < 2 ^ k → b < 2 ^ k → bit_or a b ≡ residue k (pos (bit_or (a % 2 ^ k) (b % 2 ^ k)))
+unsigned_or k a b f g = unsigned_bits k bit_or or_lt a b f g
 
--- and by those of a long long
-pub shl_64 : (z : ℤ) (n : ℕ) → FitsSigned w64 z → n < 64 → cast_signed w64 ((cast_unsigned w64 z * 2 ^ n) % 2 ^ 64) ≡ int_wrap w64 (z *ℤ pos (2 ^ n))
-shl_64 z n f h =
-    let p : cast_unsigned w64 z < 2 ^ 64 = rw (bits_64 z f) (residue-lt_64 z) in
-    let q : 2 ^ n < 2 ^ 64 = pow-lt h in
-    wrapping_mul-bits w64 (cast_unsigned w64 z) (2 ^ n) p q ∙ rw (to_z-of_z w64 z f, read_64 (2 ^ n) q, int_wrap-mul_right) refl
+pub unsigned_xor : (k a b : ℕ) → a < 2 ^ k → b < 2 ^ k → bit_xor a b ≡ residue k (pos (bit_xor (a % 2 ^ k) (b % 2 ^ k)))
+unsigned_xor k a b f g = unsigned_bits k bit_xor xor_lt a b f g
+
+-- times a power of two, by the bits
+pub shl : (w : Width) (z : ℤ) (n : ℕ) → FitsSigned w z → n < bits w → cast_signed w ((cast_unsigned w z * 2 ^ n) % 2 ^ bits w) ≡ int_wrap w (z *ℤ pos (2 ^ n))
+shl w z n f h =
+    let p : cast_unsigned w z < 2 ^ bits w = rw (bits_are w z f) (residue-lt (bits w) z) in
+    let q : 2 ^ n < 2 ^ bits w = pow-lt h in
+    wrapping_mul-bits w (cast_unsigned w z) (2 ^ n) p q ∙ rw (to_z-of_z w z f, read w (2 ^ n) q, int_wrap-mul_right) refl

@@ -5,3 +5,4 @@ pub mod Pairs
 pub mod Faults
 pub mod ValueText
 pub mod FaultNames
+pub mod Times

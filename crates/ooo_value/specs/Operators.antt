@@ -25,14 +25,11 @@ is_overflow k z = is_signed k && not (is_in_range k z)
 abbrev pub result_in : Kind → ℤ → Answer
 result_in k z = if is_overflow k z then Err Overflow else Ok (value_of k z)
 
--- the quotient, cut towards zero ([expr.mul])
-abbrev pub quotient_in : Kind → ℤ → ℤ → Answer
-quotient_in k x y = if is_nonzero y then result_in k (int_div x y) else Err DivideByZero
-
--- what the quotient leaves, with the sign of the left side; it is there only where the quotient is ([expr.mul])
-abbrev pub remainder_in : Kind → ℤ → ℤ → Answer
-remainder_in k x y =
-    if is_nonzero y then (if is_overflow k (int_div x y) then Err Overflow else Ok (value_of k (int_rem x y))) else Err DivideByZero
+-- what `f` gives of two integers that are divided: it is there only where the quotient is ([expr.mul])
+abbrev pub divided_in : (ℤ → ℤ → ℤ) → Kind → ℤ → ℤ → Answer
+divided_in f k x y =
+    if is_nonzero y then (if is_overflow k (int_div x y) then Err Overflow else Ok (value_of k (f x y)))
+    else Err DivideByZero
 
 -- the bits of an integer of a kind, in two's complement, read as a natural number
 abbrev pub bits_in : Kind → ℤ → ℕ
@@ -58,35 +55,51 @@ shift_of f v by =
     shifted_by (amount_of (width_of k) (number_of by)) (λ n. value_of k (f (number_of v) n))
 
 -- times a power of two
-abbrev pub left_shift_of : Value → Value → Answer
-left_shift_of = shift_of (λ z n. z *ℤ pos (2 ^ n))
-
--- divided by a power of two and rounded down, which copies the sign
-abbrev pub right_shift_of : Value → Value → Answer
-right_shift_of = shift_of int_shr
+abbrev pub times_power : ℤ → ℕ → ℤ
+times_power z n = z *ℤ pos (2 ^ n)
 
 -- both operands in their common kind
 abbrev pub in_common : (Kind → ℤ → ℤ → Answer) → Value → Value → Answer
 in_common f a b = let k = common_kind (kind_of a) (kind_of b) in f k (number_in k a) (number_in k b)
 
+-- a class of operators, by what the exact result is
+pub data Class : Type 0 where
+  Sum : (ℤ → ℤ → ℤ) → Class
+  Quotient : (ℤ → ℤ → ℤ) → Class
+  Bits : (ℕ → ℕ → ℕ) → Class
+  Shift : (ℤ → ℕ → ℤ) → Class
+  Comparison : (ℤ → ℤ → Bool) → Class
+
+-- the class of an operator: a quotient is cut towards zero, and its rest has the sign of the left side ([expr.mul])
+abbrev pub class_of : Op → Class
+class_of op.Add = Sum (λ x y. x +ℤ y)
+class_of op.Subtract = Sum (λ x y. x -ℤ y)
+class_of op.Multiply = Sum (λ x y. x *ℤ y)
+class_of op.Divide = Quotient int_div
+class_of op.Remainder = Quotient int_rem
+class_of op.BitAnd = Bits bit_and
+class_of op.BitOr = Bits bit_or
+class_of op.BitXor = Bits bit_xor
+class_of op.ShiftLeft = Shift times_power
+class_of op.ShiftRight = Shift int_shr
+class_of op.Equal = Comparison int_eq
+class_of op.NotEqual = Comparison (λ x y. not (int_eq x y))
+class_of op.Less = Comparison int_lt
+class_of op.LessOrEqual = Comparison int_le
+class_of op.Greater = Comparison (λ x y. int_lt y x)
+class_of op.GreaterOrEqual = Comparison (λ x y. int_le y x)
+
+-- what an operator of a class gives for two values
+abbrev pub answer_of : Class → Value → Value → Answer
+answer_of (Sum f) a b = in_common (λ k x y. result_in k (f x y)) a b
+answer_of (Quotient f) a b = in_common (divided_in f) a b
+answer_of (Bits f) a b = in_common (λ k x y. Ok (bitwise f k x y)) a b
+answer_of (Shift f) a b = shift_of f a b
+answer_of (Comparison f) a b = in_common (λ k x y. Ok (value.Bool (f x y))) a b
+
 -- the operators on two values
 abbrev pub binary_of : Op → Value → Value → Answer
-binary_of op.Add a b = in_common (λ k x y. result_in k (x +ℤ y)) a b
-binary_of op.Subtract a b = in_common (λ k x y. result_in k (x -ℤ y)) a b
-binary_of op.Multiply a b = in_common (λ k x y. result_in k (x *ℤ y)) a b
-binary_of op.Divide a b = in_common quotient_in a b
-binary_of op.Remainder a b = in_common remainder_in a b
-binary_of op.BitAnd a b = in_common (λ k x y. Ok (bitwise bit_and k x y)) a b
-binary_of op.BitOr a b = in_common (λ k x y. Ok (bitwise bit_or k x y)) a b
-binary_of op.BitXor a b = in_common (λ k x y. Ok (bitwise bit_xor k x y)) a b
-binary_of op.ShiftLeft a b = left_shift_of a b
-binary_of op.ShiftRight a b = right_shift_of a b
-binary_of op.Equal a b = in_common (λ k x y. Ok (value.Bool (int_eq x y))) a b
-binary_of op.NotEqual a b = in_common (λ k x y. Ok (value.Bool (not (int_eq x y)))) a b
-binary_of op.Less a b = in_common (λ k x y. Ok (value.Bool (int_lt x y))) a b
-binary_of op.LessOrEqual a b = in_common (λ k x y. Ok (value.Bool (int_le x y))) a b
-binary_of op.Greater a b = in_common (λ k x y. Ok (value.Bool (int_lt y x))) a b
-binary_of op.GreaterOrEqual a b = in_common (λ k x y. Ok (value.Bool (int_le y x))) a b
+binary_of o a b = answer_of (class_of o) a b
 
 -- unary minus, in the promoted kind ([expr.unary.op])
 abbrev pub negation_of : Value → Answer
@@ -96,19 +109,16 @@ negation_of v = result_in (promoted_kind (kind_of v)) (neg_ℤ (number_of v))
 abbrev pub inversion_of : Value → Value
 inversion_of v = value_of (promoted_kind (kind_of v)) (neg_ℤ (pos 1) -ℤ number_of v)
 
--- the kind of an operator's result, by those of its operands: a comparison gives a bool, and a shift the promoted kind of its left side
+-- the kind of what an operator of a class gives, by the kinds of its operands
+abbrev pub answer_kind : Class → Kind → Kind → Kind
+answer_kind (Sum f) a b = common_kind a b
+answer_kind (Quotient f) a b = common_kind a b
+answer_kind (Bits f) a b = common_kind a b
+answer_kind (Shift f) a b = promoted_kind a
+answer_kind (Comparison f) a b = kind.Bool
+
 abbrev pub binary_kind : Op → Kind → Kind → Kind
-binary_kind op.Add a b = common_kind a b
-binary_kind op.Subtract a b = common_kind a b
-binary_kind op.Multiply a b = common_kind a b
-binary_kind op.Divide a b = common_kind a b
-binary_kind op.Remainder a b = common_kind a b
-binary_kind op.BitAnd a b = common_kind a b
-binary_kind op.BitOr a b = common_kind a b
-binary_kind op.BitXor a b = common_kind a b
-binary_kind op.ShiftLeft a b = promoted_kind a
-binary_kind op.ShiftRight a b = promoted_kind a
-binary_kind _ a b = kind.Bool
+binary_kind o a b = answer_kind (class_of o) a b
 
 -- q is z divided by the positive n and rounded down ([expr.shift])
 abbrev pub IsFloor : ℤ → ℕ → ℤ → Type 0

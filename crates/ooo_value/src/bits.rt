@@ -6,7 +6,7 @@ use crate::pairs::Pair;
 use crate::values::Value;
 
 // `&`
-#[tactic(auto, using(crate::proofs::Wraps::ands))]
+#[tactic(auto, using(crate::proofs::Wraps::signed_and))]
 pub(crate) fn and(pair: Pair) -> Value
     ensures { result ≡ bitwise bit_and (pair_kind pair) (left_of pair) (right_of pair) }
 {
@@ -19,7 +19,7 @@ pub(crate) fn and(pair: Pair) -> Value
 }
 
 // `|`
-#[tactic(auto, using(crate::proofs::Wraps::ors))]
+#[tactic(auto, using(crate::proofs::Wraps::signed_or, crate::proofs::Wraps::unsigned_or))]
 pub(crate) fn or(pair: Pair) -> Value
     ensures { result ≡ bitwise bit_or (pair_kind pair) (left_of pair) (right_of pair) }
 {
@@ -32,7 +32,7 @@ pub(crate) fn or(pair: Pair) -> Value
 }
 
 // `^`
-#[tactic(auto, using(crate::proofs::Wraps::xors))]
+#[tactic(auto, using(crate::proofs::Wraps::signed_xor, crate::proofs::Wraps::unsigned_xor))]
 pub(crate) fn xor(pair: Pair) -> Value
     ensures { result ≡ bitwise bit_xor (pair_kind pair) (left_of pair) (right_of pair) }
 {

@@ -1,5 +1,5 @@
-ghost use Rattle.std.specs.Prelude.{◌≡◌};
-ghost use Rattle.ooo_value.specs.Operators.{quotient_in, remainder_in};
+ghost use Rattle.std.specs.Prelude.{◌≡◌, int_div, int_rem};
+ghost use Rattle.ooo_value.specs.Operators.{divided_in};
 ghost use Rattle.ooo_value.specs.Pairs.{pair_kind, left_of, right_of};
 
 use crate::operators::Fault;
@@ -8,7 +8,7 @@ use crate::values::Value;
 
 // `/`, which cuts towards zero.
 pub(crate) fn divide(pair: Pair) -> Result<Value, Fault>
-    ensures { result ≡ quotient_in (pair_kind pair) (left_of pair) (right_of pair) }
+    ensures { result ≡ divided_in int_div (pair_kind pair) (left_of pair) (right_of pair) }
 {
     if pair.is_right_zero() {
         return Err(Fault::DivideByZero);
@@ -29,7 +29,7 @@ pub(crate) fn divide(pair: Pair) -> Result<Value, Fault>
 
 // `%`, with the sign of the left side. It faults where `/` does.
 pub(crate) fn remainder(pair: Pair) -> Result<Value, Fault>
-    ensures { result ≡ remainder_in (pair_kind pair) (left_of pair) (right_of pair) }
+    ensures { result ≡ divided_in int_rem (pair_kind pair) (left_of pair) (right_of pair) }
 {
     if pair.is_right_zero() {
         return Err(Fault::DivideByZero);

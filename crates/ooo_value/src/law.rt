@@ -1,18 +1,21 @@
 //! Laws of kinds, values and operators. Each function does nothing, and its contract is the law.
 
-ghost use Rattle.std.specs.Prelude.{◌≡◌, ◌≢◌, ◌↔◌, ◌⊎◌, ◌+◌, ◌^◌, pos, neg_ℤ, unsigned_abs, IsTrue, IsFalse, Ok, Err, IfOk};
+ghost use Rattle.std.specs.Prelude.{◌≡◌, ◌≢◌, ◌↔◌, ◌⊎◌, ◌+◌, ◌^◌, pos, neg_ℤ, unsigned_abs, IsTrue, IsFalse, Ok, Err, IfOk, IfErr};
+ghost use Rattle.std.specs.Int.{int_shr};
 ghost use Rattle.ooo_value.specs.declared.kinds.Kind.TheVariants as kind;
 ghost use Rattle.ooo_value.specs.declared.operators.Fault.TheVariants as fault;
 ghost use Rattle.ooo_value.specs.declared.operators.Op.TheVariants as op;
 ghost use Rattle.ooo_value.specs.declared.values.Value.TheVariants as value;
 ghost use Rattle.ooo_value.specs.Faults.{DividesByZero, Overflows, ShiftsTooFar, is_shift};
 ghost use Rattle.ooo_value.specs.Kinds.{common_kind, is_signed, promoted_kind, width_of};
-ghost use Rattle.ooo_value.specs.Operators.{IsFloor, IsQuotientAndRest, binary_kind, binary_of, bits_in, inversion_of, negation_of, right_shift_of};
+ghost use Rattle.ooo_value.specs.Operators.{IsFloor, IsQuotientAndRest, binary_kind, binary_of, bits_in, inversion_of, negation_of, shift_of};
+ghost use Rattle.ooo_value.specs.Times.{IsTime, ticks_in, time_of};
 ghost use Rattle.ooo_value.specs.Values.{IsCongruent, IsOfKind, conversion_of, kind_of, number_in, number_of, is_in_range};
 
 use crate::kinds::Kind;
 use crate::operators::Op;
 use crate::values::Value;
+use ooo_time::Scale;
 
 /// The common kind is that of the same operands the other way round.
 pub fn common_is_symmetric(a: Kind, b: Kind)
@@ -106,7 +109,7 @@ pub fn inversion_has_the_other_bits(v: Value)
 /// `>>` divides by a power of two and rounds down, so it copies the sign.
 pub fn right_shift_rounds_down(v: Value, by: Value)
     ensures { let power = 2 ^ unsigned_abs (number_of by) in
-        IfOk (right_shift_of v by) (λ w. IsFloor (number_of v) power (number_of w)) }
+        IfOk (shift_of int_shr v by) (λ w. IsFloor (number_of v) power (number_of w)) }
 {}
 
 /// The quotient times the divisor and the rest make the left side, and the rest is smaller than
@@ -116,4 +119,12 @@ pub fn quotient_and_rest(a: Value, b: Value, quotient: Value, rest: Value)
         binary_of op.Divide a b ≡ Ok quotient →
         binary_of op.Remainder a b ≡ Ok rest →
         IsQuotientAndRest (number_in k a) (number_in k b) (number_of quotient) (number_of rest) }
+{}
+
+/// The time of so many units is their count of ticks, and there is none exactly where that is
+/// negative or above the greatest time.
+pub fn time_faults(amount: Value, unit: Scale)
+    ensures ticks { IfOk (time_of amount unit) (λ t. pos t.0 ≡ ticks_in amount unit) }
+    ensures bad_time { (time_of amount unit ≡ Err fault.BadTime) ↔ (¬ IsTime (ticks_in amount unit)) }
+    ensures only { IfErr (time_of amount unit) (λ e. e ≡ fault.BadTime) }
 {}

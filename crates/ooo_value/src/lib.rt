@@ -16,15 +16,17 @@ mod operators;
 mod pairs;
 mod shifts;
 mod text;
+mod times;
 mod values;
 
 pub use arithmetic::negate;
 pub use bits::invert;
 pub use bound::{BoundChannel, BoundEvent, BoundVariable, ChannelKind, ProcessKind};
-pub use kinds::{Kind, common};
+pub use kinds::{Kind, common, promoted};
 pub use naming::{Name, Names};
 pub use operators::{Fault, Op, binary};
 pub use text::append;
+pub use times::time_of;
 pub use values::{Value, convert, truth};
 
 #[cfg(test)]

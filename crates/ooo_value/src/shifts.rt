@@ -1,14 +1,16 @@
 ghost use Rattle.std.specs.Prelude.{◌≡◌, ◌<◌, IfOk};
-ghost use Rattle.ooo_value.specs.Operators.{amount_of, left_shift_of, right_shift_of};
+ghost use Rattle.std.specs.Int.{int_shr};
+ghost use Rattle.ooo_value.specs.Operators.{amount_of, shift_of, times_power};
 ghost use Rattle.ooo_value.specs.Values.{number_of};
 
 use crate::operators::Fault;
+use crate::times::natural;
 use crate::values::Value;
 
 // `<<`, in the promoted kind of the left side. It wraps.
-#[tactic(auto, using(crate::proofs::Wraps::shl_32, crate::proofs::Wraps::shl_64))]
+#[tactic(auto, using(crate::proofs::Wraps::shl))]
 pub(crate) fn shift_left(v: Value, by: Value) -> Result<Value, Fault>
-    ensures { result ≡ left_shift_of v by }
+    ensures { result ≡ shift_of times_power v by }
 {
     Ok(match v {
         Value::Bool(b) => Value::Int(i32::from(b) << amount(by, 32)?),
@@ -21,7 +23,7 @@ pub(crate) fn shift_left(v: Value, by: Value) -> Result<Value, Fault>
 
 // `>>`, in the promoted kind of the left side. It copies the sign.
 pub(crate) fn shift_right(v: Value, by: Value) -> Result<Value, Fault>
-    ensures { result ≡ right_shift_of v by }
+    ensures { result ≡ shift_of int_shr v by }
 {
     Ok(match v {
         Value::Bool(b) => Value::Int(i32::from(b) >> amount(by, 32)?),
@@ -37,17 +39,8 @@ fn amount(by: Value, width: u32) -> Result<u32, Fault>
     ensures value { result ≡ amount_of width (number_of by) }
     ensures below { IfOk result (λ n. n < width) }
 {
-    let by = match by {
-        Value::Bool(b) => u64::from(b),
-        Value::Int(x) if x >= 0 => x as u64,
-        Value::Uint(x) => u64::from(x),
-        Value::Long(x) if x >= 0 => x as u64,
-        Value::Ulong(x) => x,
-        Value::Int(_) | Value::Long(_) => return Err(Fault::ShiftRange),
-    };
-    if by < u64::from(width) {
-        Ok(by as u32)
-    } else {
-        Err(Fault::ShiftRange)
+    match natural(by) {
+        Some(n) if n < u64::from(width) => Ok(n as u32),
+        _ => Err(Fault::ShiftRange),
     }
 }

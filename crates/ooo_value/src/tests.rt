@@ -8,7 +8,11 @@ mod quotients;
 mod single;
 mod sums;
 
-use crate::{Fault, Kind, Name, Names, Op, Value, binary, common, convert, invert, negate, truth};
+use crate::{
+    Fault, Kind, Name, Names, Op, Value, binary, common, convert, invert, negate, promoted,
+    time_of, truth,
+};
+use ooo_time::{Scale, Time};
 use sqlite_items::Items;
 use std::process::Abort;
 use std::test::Fail;
@@ -80,6 +84,31 @@ fn conversions_are_those_of_the_compiler(rt: HostRuntime) {
 fn common_kinds_are_those_of_the_compiler(rt: HostRuntime) {
     for (a, b, kind) in &conversions::COMMON {
         assert_eq!(rt; common(*a, *b), *kind, "{a:?} and {b:?}");
+    }
+}
+
+#[test]
+fn kinds_have_a_zero_and_a_promoted_kind(rt: HostRuntime) {
+    for (a, b, kind) in &conversions::COMMON {
+        assert!(rt; !truth(a.zero()) && a.zero().kind() == *a, "{a:?}");
+        assert!(rt; a != b || promoted(*a) == *kind, "{a:?}");
+    }
+}
+
+// A time is from 0 to 2^62 - 1 ticks.
+#[test]
+fn values_are_amounts_of_time(rt: HostRuntime) {
+    let rows = [
+        (Value::Bool(true), Scale::Sec, Ok(Time(1_000_000_000_000))),
+        (Value::Int(10), Scale::Ns, Ok(Time(10_000))),
+        (Value::Int(-1), Scale::Ps, Err(Fault::BadTime)),
+        (Value::Long(0), Scale::Sec, Ok(Time::ZERO)),
+        (Value::Ulong((1 << 62) - 1), Scale::Ps, Ok(Time::GREATEST)),
+        (Value::Ulong(1 << 62), Scale::Ps, Err(Fault::BadTime)),
+        (Value::Ulong(u64::MAX), Scale::Ms, Err(Fault::BadTime)),
+    ];
+    for (amount, unit, time) in rows {
+        assert_eq!(rt; time_of(amount, unit), time, "{amount:?} {unit:?}");
     }
 }
 

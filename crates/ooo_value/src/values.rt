@@ -63,7 +63,7 @@ pub fn convert(v: Value, to: Kind) -> Value
 }
 
 // The value as an `int`.
-#[tactic(auto, using(crate::proofs::Wraps::int_wrap_32))]
+#[tactic(auto, using(crate::proofs::Wraps::int_wrap_is))]
 pub(crate) fn as_int(v: Value) -> i32
     ensures { result ≡ int_wrap w32 (number_of v) }
 {
@@ -90,7 +90,7 @@ pub(crate) fn as_uint(v: Value) -> u32
 }
 
 // The value as a `long long`.
-#[tactic(auto, using(crate::proofs::Wraps::int_wrap_64))]
+#[tactic(auto, using(crate::proofs::Wraps::int_wrap_is))]
 pub(crate) fn as_long(v: Value) -> i64
     ensures { result ≡ int_wrap w64 (number_of v) }
 {
