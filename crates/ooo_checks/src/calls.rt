@@ -1,7 +1,7 @@
 ghost use Rattle.std.specs.Prelude.{◌≤◌};
 
 use ooo_outside::{MemorySink, MemorySource};
-use ooo_sim::alone;
+use ooo_sim::{Status, alone};
 use std::alloc::{AllocError, Global};
 use std::test::Fail;
 
@@ -43,12 +43,12 @@ const PLENTY: Feed = Feed {
 
 #[derive(Drop)]
 struct Outcome {
-    status: Option<u8>,
+    status: Option<Status>,
     held: Vec<u8>,
 }
 
 impl Outcome {
-    fn is(&self, status: u8, held: &[u8]) -> bool {
+    fn is(&self, status: Status, held: &[u8]) -> bool {
         self.status == Some(status) && self.held.as_slice() == held
     }
 }
@@ -85,7 +85,7 @@ fn a_byte_at_a_time_gives_the_report(rt: HostRuntime) -> Result<(), Fail> {
         ..PLENTY
     };
     let outcome = call(rt.alloc(), "plain", model(rt.alloc())?, feed)?;
-    assert!(rt; outcome.is(0, REPORT));
+    assert!(rt; outcome.is(Status::Done, REPORT));
     Ok(())
 }
 
@@ -99,7 +99,7 @@ fn each_failing_read_gives_status_4_and_writes_nothing(rt: HostRuntime) -> Resul
             ..PLENTY
         };
         let outcome = call(rt.alloc(), "plain", model(rt.alloc())?, feed)?;
-        assert!(rt; outcome.is(4, b""), "read {failing_read}");
+        assert!(rt; outcome.is(Status::SourceFailed, b""), "read {failing_read}");
     }
     let feed = Feed {
         most_read: 16,
@@ -107,13 +107,13 @@ fn each_failing_read_gives_status_4_and_writes_nothing(rt: HostRuntime) -> Resul
         ..PLENTY
     };
     let outcome = call(rt.alloc(), "plain", model(rt.alloc())?, feed)?;
-    assert!(rt; outcome.is(0, REPORT));
+    assert!(rt; outcome.is(Status::Done, REPORT));
     Ok(())
 }
 
 // The report has 43 bytes, so 11 writes take it.
 #[test]
-fn each_failing_write_gives_status_5_after_a_front(rt: HostRuntime) -> Result<(), Fail> {
+fn each_failing_write_gives_status_5_after_a_prefix(rt: HostRuntime) -> Result<(), Fail> {
     for failing_write in 1..=11usize {
         let feed = Feed {
             most_written: 4,
@@ -122,7 +122,7 @@ fn each_failing_write_gives_status_5_after_a_front(rt: HostRuntime) -> Result<()
         };
         let outcome = call(rt.alloc(), "plain", model(rt.alloc())?, feed)?;
         assert!(rt;
-            outcome.is(5, &REPORT[..4 * failing_write - 4]),
+            outcome.is(Status::SinkFailed, &REPORT[..4 * failing_write - 4]),
             "write {failing_write}"
         );
     }
@@ -132,15 +132,15 @@ fn each_failing_write_gives_status_5_after_a_front(rt: HostRuntime) -> Result<()
         ..PLENTY
     };
     let outcome = call(rt.alloc(), "plain", model(rt.alloc())?, feed)?;
-    assert!(rt; outcome.is(0, REPORT));
+    assert!(rt; outcome.is(Status::Done, REPORT));
     Ok(())
 }
 
 #[test]
-fn a_sink_without_room_gives_status_5_after_a_front(rt: HostRuntime) -> Result<(), Fail> {
+fn a_sink_without_room_gives_status_5_after_a_prefix(rt: HostRuntime) -> Result<(), Fail> {
     let feed = Feed { room: 10, ..PLENTY };
     let outcome = call(rt.alloc(), "plain", model(rt.alloc())?, feed)?;
-    assert!(rt; outcome.is(5, b"a\nb\n10 ns\n"));
+    assert!(rt; outcome.is(Status::SinkFailed, b"a\nb\n10 ns\n"));
     Ok(())
 }
 
@@ -149,10 +149,10 @@ fn a_source_may_have_1048576_bytes(rt: HostRuntime) -> Result<(), Fail> {
     let alloc = rt.alloc();
     let blanks = vec![in alloc; b' '; 1_048_576]?;
     let outcome = call(alloc, "plain", blanks, PLENTY)?;
-    assert!(rt; outcome.is(3, WRONG_FORM));
+    assert!(rt; outcome.is(Status::TextRefused, WRONG_FORM));
     let blanks = vec![in alloc; b' '; 1_048_577]?;
     let outcome = call(alloc, "plain", blanks, PLENTY)?;
-    assert!(rt; outcome.is(8, b"refused source TooLong\n"));
+    assert!(rt; outcome.is(Status::SourceTooLong, b"refused source TooLong\n"));
     Ok(())
 }
 
@@ -166,7 +166,7 @@ fn other_words_are_refused(rt: HostRuntime) -> Result<(), Fail> {
     ];
     for (word, line) in rows {
         let outcome = call(rt.alloc(), word, model(rt.alloc())?, PLENTY)?;
-        assert!(rt; outcome.is(2, line), "{word}");
+        assert!(rt; outcome.is(Status::WordsRefused, line), "{word}");
     }
     Ok(())
 }

@@ -3,18 +3,16 @@ use Rattle.std.proofs.Common.{◌≡◌, ℕ, zero, suc, ◌+◌, Bool, true, fa
 use Rattle.std.specs.List.{list_all, prefix_len, take_while}
 use Rattle.std.specs.Option.{option_map}
 use Rattle.std.proofs.lemmas.Bool.{and_parts, eqb-true, false≢true, false_from_ne_true}
-use Rattle.std.proofs.lemmas.List.{append-nil, length-take, length-drop}
+use Rattle.std.proofs.lemmas.List.{length-take, length-drop}
 use Rattle.std.proofs.lemmas.List.Sums.{take_while-cons}
 use Rattle.ooo_lexer.specs.declared.bytes.Class.TheVariants as class
-use Rattle.ooo_lexer.specs.declared.error.LexError.TheVariants as error
-use Rattle.ooo_lexer.specs.declared.flaw.Breach.TheVariants as breach
+use Rattle.ooo_lexer.specs.declared.breach.LexBreach.TheVariants as breach
 use Rattle.ooo_lexer.specs.declared.heads.PieceKind.TheVariants as piece
 use Rattle.ooo_lexer.specs.Breaches.{comment_not_closed}
 use Rattle.ooo_lexer.specs.Bytes.{is_line_byte, StopsBefore}
 use Rattle.ooo_lexer.specs.Forms.{HasNoEnd}
 use Rattle.ooo_lexer.specs.Heads.{flaw, head, close_at, block_head, mark_head}
 use Rattle.ooo_lexer.specs.Pieces.{Comment}
-use Rattle.ooo_lexer.specs.Places.{position_after}
 use Rattle.ooo_lexer.specs.Runs.{has, begins_with}
 use Rattle.ooo_lexer.proofs.Finds.{First, Finds, begins_is}
 use Rattle.ooo_lexer.proofs.Runs.{run_front, run_passes, run_stops, run_joins}
@@ -99,16 +97,13 @@ close_some (b ∷ bs) n e = some_by b bs n (b == 42 && begins_with 47 bs) (close
 
 -- ---- what the code finds
 
-not_closed : (before xs : List ℕ) → error.CommentNotClosed (position_after (before ++ [])) ≡ error.CommentNotClosed (position_after before)
-not_closed before xs = ap (λ x. error.CommentNotClosed (position_after x)) (append-nil before)
-
 block_length : (n : ℕ) (bs : List ℕ) → bs ≡ take n bs ++ (codes "*/" ++ drop (n + 2) bs) → n + 4 ≡ length (47 ∷ 42 ∷ (take n bs ++ codes "*/"))
 block_length n bs e =
     let whole = ap length e ∙ length-append (take n bs) (codes "*/" ++ drop (n + 2) bs) in
     omega (arith, whole, length-append (take n bs) (codes "*/"), length-take n bs, length-drop (n + 2) bs)
 
 block_by : (bs : List ℕ) (r : Option ℕ) → close_at bs ≡ r → Finds (47 ∷ 42 ∷ bs) (block_head r)
-block_by bs None e = record { breach = λ before. comment_not_closed bs (close_none bs e) refl (not_closed before bs); within = omega arith }
+block_by bs None e = record { breach = comment_not_closed bs (close_none bs e) refl refl refl; within = omega arith }
 block_by bs (Some n) e =
     let at = close_some bs n e in
     let inside = take n bs in

@@ -1,13 +1,15 @@
 -- A source is cut in one way up to where it can't be, and has one breach there.
-use Rattle.std.proofs.Common.{◌≡◌, ℕ, ◌<◌, List, [], ◌∷◌, ◌++◌, length, take, drop, Result, Ok, Err, ⊎_elim, refl, sym, ap, ◌∙◌, arith, length-append, append_assoc, append-nil}
+use Rattle.std.proofs.Common.{◌≡◌, ℕ, ◌<◌, List, [], ◌∷◌, ◌++◌, length, take, take, drop, Result, Ok, Err, ⊎_elim, refl, sym, ap, ◌∙◌, arith, length-append, append_assoc, append-nil}
 use Rattle.std.proofs.lemmas.List.{take_at, drop_at}
-use Rattle.ooo_lexer.specs.declared.error.LexError.{LexError}
+use Rattle.ooo_lexer.specs.declared.breach.LexBreach.{LexBreach}
+use Rattle.ooo_lexer.specs.declared.position.Position.{Position}
+use Rattle.ooo_lexer.specs.Positions.{position_after}
 use Rattle.ooo_lexer.specs.declared.flaw.Flaw.{Flaw}
 use Rattle.ooo_lexer.specs.declared.token.TokenKind.{TokenKind}
 use Rattle.ooo_lexer.specs.declared.token.TokenKind.TheVariants as kind
 use Rattle.ooo_lexer.specs.declared.heads.Head.{Head}
-use Rattle.ooo_lexer.specs.Breaches.{IsBadNumber, IsBreach, bad_byte, bad_escape, text_not_closed, number_too_wide, bad_number, comment_not_closed, directive, HasBreach}
-use Rattle.ooo_lexer.specs.Heads.{error_at, head_of}
+use Rattle.ooo_lexer.specs.Breaches.{IsBadNumber, IsBreach, bad_byte, bad_escape, text_not_closed, number_too_wide, bad_number, comment_not_closed, directive, HasBreach, IsOnlyBreach}
+use Rattle.ooo_lexer.specs.Heads.{head_of}
 use Rattle.ooo_lexer.specs.Pieces.{Piece, Space, Comment, Directive, Kept, bytes_of, IsOfKind, StandsBefore, joined, EachStands, Cuts}
 use Rattle.ooo_lexer.proofs.Finds.{kind_of, head_from}
 use Rattle.ooo_lexer.proofs.Firsts.{complete, flawed}
@@ -72,8 +74,8 @@ pub stuck_at_end : Stuck []
 unfolding head_of
 stuck_at_end = record { flaw = _; head = refl }
 
-pub stuck_at_breach : (before rest : List ℕ) (e : LexError) → IsBreach before rest e → Stuck rest
-stuck_at_breach before rest e breach = let f = flawed before rest e breach in record { flaw = f.flaw; head = f.head }
+pub stuck_at_breach : (rest : List ℕ) (b : LexBreach) (before : List ℕ) → IsBreach rest b before → Stuck rest
+stuck_at_breach rest b before breach = let f = flawed rest b before breach in record { flaw = f.flaw; head = f.head }
 
 pub not_stuck : (p : Piece) (r xs : List ℕ) → StandsBefore p r → bytes_of p ++ r ≡ xs → Stuck xs → ⊥
 not_stuck p r xs f e s = let heads : ◌≡◌ {A = Result Head Flaw} (Ok (head_from p)) (Err s.flaw) = sym (complete p r f) ∙ ap head_of e ∙ s.head in absurd cc
@@ -98,30 +100,39 @@ bad_number_has_bytes : (bs : List ℕ) → IsBadNumber bs → 0 < length bs
 bad_number_has_bytes [] bad = absurd bad
 bad_number_has_bytes (b ∷ bs) bad = omega arith
 
-breach_has_bytes : (before rest : List ℕ) (e : LexError) → IsBreach before rest e → 0 < length rest
-breach_has_bytes before rest e (bad_byte is same) = omega (arith, ap length is.is)
-breach_has_bytes before rest e (bad_escape parts later after are clean is same) = omega (arith, ap length is)
-breach_has_bytes before rest e (text_not_closed parts after are ends is same) = omega (arith, ap length is)
-breach_has_bytes before rest e (number_too_wide bs after wide stops is same) =
+breach_has_bytes : (rest : List ℕ) (b : LexBreach) (before : List ℕ) → IsBreach rest b before → 0 < length rest
+breach_has_bytes rest b before (bad_byte is same none) = omega (arith, ap length is.is)
+breach_has_bytes rest b before (bad_escape parts later after are clean is same none) = omega (arith, ap length is)
+breach_has_bytes rest b before (text_not_closed parts after are ends is same none) = omega (arith, ap length is)
+breach_has_bytes rest b before (number_too_wide bs after wide stops is same none) =
     let begins = numeral_begins bs wide.base wide.digits wide.suffix wide.numeral in omega (arith, ap length is, ap length begins.2, length-append bs after)
-breach_has_bytes before rest e (bad_number bs after bad stops is same) = omega (arith, ap length is, bad_number_has_bytes bs bad, length-append bs after)
-breach_has_bytes before rest e (comment_not_closed after none is same) = omega (arith, ap length is)
-breach_has_bytes before rest e (directive line after on stops none is same) = omega (arith, ap length is)
+breach_has_bytes rest b before (bad_number bs after bad stops is same none) = omega (arith, ap length is, bad_number_has_bytes bs bad, length-append bs after)
+breach_has_bytes rest b before (comment_not_closed after no_end is same none) = omega (arith, ap length is)
+breach_has_bytes rest b before (directive line after on stops bad is same none) = omega (arith, ap length is)
 
 -- a source with a breach is cut before the breach alone
-pub no_cutting : (source : List ℕ) (e : LexError) (ps : List Piece) → HasBreach source e → Cuts source ps → ⊥
-no_cutting source e ps b c =
-    let stuck = stuck_at_breach (joined b.front) b.rest e b.breach in
-    let same = same_front b.front ps b.rest [] b.fits c.fits stuck stuck_at_end (b.whole ∙ sym c.whole ∙ sym (append-nil (joined ps))) in
-    absurd (omega (arith, ap length same.1, breach_has_bytes (joined b.front) b.rest e b.breach))
+pub no_cutting : (source : List ℕ) (b : LexBreach) (at : Position) (ps : List Piece) → HasBreach source b at → Cuts source ps → ⊥
+no_cutting source b at ps has c =
+    let stuck = stuck_at_breach has.rest b has.before has.breach in
+    let same = same_front has.cut ps has.rest [] has.fits c.fits stuck stuck_at_end (has.whole ∙ sym c.whole ∙ sym (append-nil (joined ps))) in
+    absurd (omega (arith, ap length same.1, breach_has_bytes has.rest b has.before has.breach))
 
-pub one_breach : (source : List ℕ) (e f : LexError) → HasBreach source e → HasBreach source f → e ≡ f
-one_breach source e f a b =
-    let left = stuck_at_breach (joined a.front) a.rest e a.breach in
-    let right = stuck_at_breach (joined b.front) b.rest f b.breach in
-    let same = same_front a.front b.front a.rest b.rest a.fits b.fits left right (a.whole ∙ sym b.whole) in
-    let x = flawed (joined a.front) a.rest e a.breach in
-    let y = flawed (joined b.front) b.rest f b.breach in
+-- the position of a flaw of what stands after pieces
+position_at : List Piece → List ℕ → ℕ → Position
+position_at cut rest n = position_after (joined cut ++ take n rest)
+
+pub one_breach : (source : List ℕ) (b : LexBreach) (at : Position) → HasBreach source b at → IsOnlyBreach source b at
+unfolding position_at
+one_breach source b at has c there other =
+    let left = stuck_at_breach has.rest b has.before has.breach in
+    let right = stuck_at_breach other.rest c other.before other.breach in
+    let same = same_front has.cut other.cut has.rest other.rest has.fits other.fits left right (has.whole ∙ sym other.whole) in
+    let x = flawed has.rest b has.before has.breach in
+    let y = flawed other.rest c other.before other.breach in
     let heads : ◌≡◌ {A = Result Head Flaw} (Err x.flaw) (Err y.flaw) = sym x.head ∙ ap head_of same.1 ∙ y.head in
     let flaws : x.flaw ≡ y.flaw = cc in
-    x.error ∙ ap (λ ps. error_at (joined ps) a.rest x.flaw) same.0 ∙ ap (λ r. error_at (joined b.front) r x.flaw) same.1 ∙ ap (error_at (joined b.front) b.rest) flaws ∙ sym y.error
+    let here : at ≡ position_at has.cut has.rest x.flaw.before = has.position ∙ ap (λ r. position_after (joined has.cut ++ r)) x.taken in
+    let over : there ≡ position_at other.cut other.rest y.flaw.before = other.position ∙ ap (λ r. position_after (joined other.cut ++ r)) y.taken in
+    let moved : position_at has.cut has.rest x.flaw.before ≡ position_at other.cut other.rest y.flaw.before =
+    ap (λ ps. position_at ps has.rest x.flaw.before) same.0 ∙ ap (λ r. position_at other.cut r x.flaw.before) same.1 ∙ ap (λ f. position_at other.cut other.rest f.before) flaws in
+    (y.same ∙ sym (ap (λ f. f.breach) flaws) ∙ sym x.same, over ∙ sym moved ∙ sym here)

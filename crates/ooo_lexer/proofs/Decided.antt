@@ -1,10 +1,12 @@
 -- Every source is cut or has a breach.
-use Rattle.std.proofs.Common.{◌≡◌, ℕ, zero, suc, ◌≤◌, List, [], ◌∷◌, ◌++◌, ◌⊎◌, inl, inr, length, Result, Ok, Err, refl, sym, ap, ◌∙◌, subst, arith, append-nil, length-append}
-use Rattle.ooo_lexer.specs.declared.error.LexError.{LexError}
+use Rattle.std.proofs.Common.{◌≡◌, ℕ, zero, suc, ◌≤◌, List, [], ◌∷◌, ◌++◌, ◌⊎◌, inl, inr, length, take, Result, Ok, Err, refl, sym, ap, ◌∙◌, subst, arith, append-nil, length-append}
+use Rattle.ooo_lexer.specs.declared.breach.LexBreach.{LexBreach}
+use Rattle.ooo_lexer.specs.declared.position.Position.{Position}
+use Rattle.ooo_lexer.specs.Positions.{position_after}
 use Rattle.ooo_lexer.specs.declared.flaw.Flaw.{Flaw}
 use Rattle.ooo_lexer.specs.declared.heads.Head.{Head}
 use Rattle.ooo_lexer.specs.Breaches.{HasBreach}
-use Rattle.ooo_lexer.specs.Heads.{error_at, head_of}
+use Rattle.ooo_lexer.specs.Heads.{head_of}
 use Rattle.ooo_lexer.specs.Pieces.{Piece, bytes_of, joined, EachStands, Cuts}
 use Rattle.ooo_lexer.proofs.Cuttings.{piece_has_bytes}
 use Rattle.ooo_lexer.proofs.Finds.{Finds}
@@ -12,7 +14,7 @@ use Rattle.ooo_lexer.proofs.Firsts.{sound}
 use Rattle.ooo_lexer.proofs.Progress.{last_follows, stands_push}
 
 abbrev CutOrBroken : List ℕ → Type 0
-CutOrBroken source = ((pieces : List Piece) × Cuts source pieces) ⊎ ((e : LexError) × HasBreach source e)
+CutOrBroken source = ((pieces : List Piece) × Cuts source pieces) ⊎ ((b : LexBreach) × ((at : Position) × HasBreach source b at))
 
 -- one step on from a front that is cut, where what is left is decided once it is shorter
 found : (n : ℕ) (source : List ℕ) (front : List Piece) (rest : List ℕ) (r : Result Head Flaw)
@@ -23,7 +25,7 @@ found n source front rest (Ok h) next short whole fits first =
     let shorter : length first.rest ≤ n = omega (arith, ap length first.is, length-append (bytes_of first.piece) first.rest) in
     next (front ++ first.piece ∷ []) first.rest shorter (last_follows front first.piece first.rest ∙ ap (λ r. joined front ++ r) (sym first.is) ∙ whole)
     (stands_push front first.piece first.rest (subst (EachStands front) first.is fits) first.stands)
-found n source front rest (Err f) next short whole fits flaw = inr (error_at (joined front) rest f, record { front = front; rest = rest; whole = whole; fits = fits; breach = flaw.breach (joined front) })
+found n source front rest (Err f) next short whole fits flaw = inr (f.breach, (position_after (joined front ++ take f.before rest), record { cut = front; rest = rest; before = take f.before rest; whole = whole; fits = fits; breach = flaw.breach; position = refl }))
 
 -- by how many bytes are left at most
 decided : (n : ℕ) (source : List ℕ) (front : List Piece) (rest : List ℕ) → length rest ≤ n → joined front ++ rest ≡ source → EachStands front rest → CutOrBroken source

@@ -4,14 +4,13 @@ use Rattle.std.specs.List.{list_all, list_any, prefix_len, take_while, starts_wi
 use Rattle.std.specs.Str.{bytes_eq}
 use Rattle.std.proofs.lemmas.Bool.{and_parts, or_cases, or_left, or_right, false≢true, both_ways, false_from_ne_true, not-true}
 use Rattle.std.proofs.lemmas.Bool.Decides.{Decides-eqb}
-use Rattle.std.proofs.lemmas.List.{append-nil, take-append-drop, drop_at}
+use Rattle.std.proofs.lemmas.List.{take-append-drop, drop_at}
 use Rattle.std.proofs.lemmas.List.Elements.{All-contains, All-from_recursion}
 use Rattle.std.proofs.lemmas.List.Folds.{list_all-append}
 use Rattle.std.proofs.lemmas.Map.Views.{Contains-from_any}
 use Rattle.std.proofs.lemmas.Slice.Eq.{bytes_eq-Decides, starts_is}
 use Rattle.ooo_lexer.specs.declared.bytes.Class.TheVariants as class
-use Rattle.ooo_lexer.specs.declared.error.LexError.TheVariants as error
-use Rattle.ooo_lexer.specs.declared.flaw.Breach.TheVariants as breach
+use Rattle.ooo_lexer.specs.declared.breach.LexBreach.TheVariants as breach
 use Rattle.ooo_lexer.specs.declared.flaw.Flaw.{Flaw}
 use Rattle.ooo_lexer.specs.declared.heads.Head.{Head}
 use Rattle.ooo_lexer.specs.declared.heads.PieceKind.TheVariants as piece
@@ -20,7 +19,6 @@ use Rattle.ooo_lexer.specs.Bytes.{is_blank, is_line_byte, StopsBefore}
 use Rattle.ooo_lexer.specs.Forms.{headers, IsLineComment, IsDirective}
 use Rattle.ooo_lexer.specs.Heads.{flaw, head, header_length, is_note, ends_header, is_include, directive_head}
 use Rattle.ooo_lexer.specs.Pieces.{Directive}
-use Rattle.ooo_lexer.specs.Places.{position_after}
 use Rattle.ooo_lexer.specs.Runs.{after_run, is_nothing}
 use Rattle.ooo_lexer.proofs.Classes.{blank_is_on_line}
 use Rattle.ooo_lexer.proofs.Finds.{Finds, passes_each, nothing_is, same_bytes}
@@ -173,10 +171,10 @@ sound_by bs true test = record {
   head = ap (λ n. head piece.Directive n) (add-one (length (take_while is_line_byte bs)));
 }
 sound_by bs false test = record {
-  breach = λ before. directive (take_while is_line_byte bs) (drop (prefix_len is_line_byte bs) bs) (run_passes is_line_byte bs) (run_stops is_line_byte bs)
+  breach = directive (take_while is_line_byte bs) (drop (prefix_len is_line_byte bs) bs) (run_passes is_line_byte bs) (run_stops is_line_byte bs)
       (λ is. both_ways (is_include (after_run class.Blank (take_while is_line_byte bs))) test (included (take_while is_line_byte bs) is))
       (ap (λ bs. 35 ∷ bs) (sym (run_joins is_line_byte bs)))
-      (ap (λ x. error.Directive (position_after x)) (append-nil before));
+      refl refl;
   within = omega arith;
 }
 

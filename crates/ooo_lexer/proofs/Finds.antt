@@ -1,5 +1,5 @@
 -- What it is that the code finds first in a list of bytes: a piece that stands first, or a breach.
-use Rattle.std.proofs.Common.{◌≡◌, ℕ, ◌≤◌, Bool, true, false, List, [], ◌∷◌, ◌++◌, length, drop, Ok, Err, Result, refl, ap}
+use Rattle.std.proofs.Common.{◌≡◌, ℕ, ◌≤◌, Bool, true, false, List, [], ◌∷◌, ◌++◌, length, take, drop, Ok, Err, Result, refl, ap}
 use Rattle.std.specs.List.{list_all, Contains}
 use Rattle.std.specs.Str.{bytes_eq}
 use Rattle.std.proofs.lemmas.Bool.{eqb-true, false≢true}
@@ -11,7 +11,7 @@ use Rattle.ooo_lexer.specs.declared.heads.Head.{Head}
 use Rattle.ooo_lexer.specs.declared.heads.PieceKind.{PieceKind}
 use Rattle.ooo_lexer.specs.declared.heads.PieceKind.TheVariants as part
 use Rattle.ooo_lexer.specs.Breaches.{IsBreach}
-use Rattle.ooo_lexer.specs.Heads.{error_at, head}
+use Rattle.ooo_lexer.specs.Heads.{head}
 use Rattle.ooo_lexer.specs.Pieces.{Piece, Space, Comment, Directive, Kept, bytes_of, StandsBefore}
 use Rattle.ooo_lexer.specs.Runs.{begins_with, is_nothing}
 
@@ -33,9 +33,9 @@ pub record First (xs : List ℕ) (h : Head) : Type 0 where
   pub stands : StandsBefore piece rest
   pub head : h ≡ head_from piece
 
--- the flaw is a breach of the bytes, whatever stands before them
+-- the flaw is a breach of the bytes
 pub record IsFlaw (xs : List ℕ) (f : Flaw) : Type 0 where
-  pub breach : (before : List ℕ) → IsBreach before xs (error_at before xs f)
+  pub breach : IsBreach xs f.breach (take f.before xs)
   pub within : f.before ≤ length xs
 
 -- what the code finds in the bytes

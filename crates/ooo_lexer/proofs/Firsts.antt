@@ -1,14 +1,12 @@
 -- What the code finds first is what stands there: a piece or a breach, and the other way round.
-use Rattle.std.proofs.Common.{◌≡◌, ℕ, suc, ◌+◌, Bool, true, false, cond, eqb, ◌&&◌, List, [], ◌∷◌, ◌++◌, length, take, drop, Ok, Err, Result, inl, inr, refl, sym, ap, ◌∙◌, subst, arith, append_assoc, length-append, append-nil, codes}
+use Rattle.std.proofs.Common.{◌≡◌, ℕ, suc, ◌+◌, Bool, true, false, cond, eqb, ◌&&◌, List, [], ◌∷◌, ◌++◌, length, take, drop, Ok, Err, Result, inl, inr, refl, sym, ap, ◌∙◌, subst, arith, append_assoc, length-append, codes}
 use Rattle.std.specs.List.{list_all, prefix_len, take_while}
 use Rattle.std.proofs.lemmas.Bool.{and_parts, and_from, or_from, or_parts, eqb-true, ne_eqb, cond-true, cond-false}
 use Rattle.std.proofs.lemmas.List.{take_at}
 use Rattle.std.proofs.lemmas.List.Sums.{take_while-cons}
 use Rattle.ooo_lexer.specs.declared.bytes.Class.TheVariants as class
-use Rattle.ooo_lexer.specs.declared.error.LexError.{LexError}
-use Rattle.ooo_lexer.specs.declared.error.LexError.TheVariants as error
-use Rattle.ooo_lexer.specs.declared.flaw.Breach.{Breach}
-use Rattle.ooo_lexer.specs.declared.flaw.Breach.TheVariants as breach
+use Rattle.ooo_lexer.specs.declared.breach.LexBreach.{LexBreach}
+use Rattle.ooo_lexer.specs.declared.breach.LexBreach.TheVariants as breach
 use Rattle.ooo_lexer.specs.declared.flaw.Flaw.{Flaw}
 use Rattle.ooo_lexer.specs.declared.heads.Head.{Head}
 use Rattle.ooo_lexer.specs.declared.heads.PieceKind.TheVariants as part
@@ -20,11 +18,10 @@ use Rattle.ooo_lexer.specs.declared.token.TokenKind.TheVariants as kind
 use Rattle.ooo_lexer.specs.Breaches.{BeginsNothing, IsBadNumber, IsBreach, bad_byte, bad_escape, text_not_closed, number_too_wide, bad_number, comment_not_closed, directive}
 use Rattle.ooo_lexer.specs.Bytes.{is_space, is_digit, begins_word, is_word_byte, is_line_byte, StopsBefore}
 use Rattle.ooo_lexer.specs.Forms.{IsWord, IsSign, IsLineComment, IsBlockComment, IsDirective, HasNoEnd}
-use Rattle.ooo_lexer.specs.Heads.{head, flaw, error_of, error_at, block_head, close_at, head_of_number, text_head, directive_head, mark_head, head_at, head_of}
+use Rattle.ooo_lexer.specs.Heads.{head, flaw, block_head, close_at, head_of_number, text_head, directive_head, mark_head, head_at, head_of}
 use Rattle.ooo_lexer.specs.Numbers.{IsNumeral, IsNumber}
 use Rattle.ooo_lexer.specs.Numerals.{number_of}
 use Rattle.ooo_lexer.specs.Pieces.{Piece, Space, Comment, Directive, Kept, bytes_of, IsOfKind, IsLongestSign, IsLongest, StandsBefore}
-use Rattle.ooo_lexer.specs.Places.{position_after}
 use Rattle.ooo_lexer.specs.Runs.{has, begins_with}
 use Rattle.ooo_lexer.specs.Texts.{Part, Stray, written_part, written, AreParts, HasNoStray, IsText, EndsLine}
 use Rattle.ooo_lexer.proofs.Classes.{word_begins, digit_goes_on, digit_begins_no_word, word_is_no_space}
@@ -43,10 +40,6 @@ chosen : (xs : List ℕ) (t : Bool) (r s : Result Head Flaw) → (t ≡ true →
 chosen xs true r s f g = f refl
 chosen xs false r s f g = g refl
 
--- the error of a flaw of the first byte
-here : (before xs : List ℕ) (k : Breach) → error_of k (position_after before) ≡ error_at before xs (flaw k 0)
-here before xs k = ap (λ x. error_of k (position_after x)) (sym (append-nil before))
-
 word_sound : (b : ℕ) (bs : List ℕ) → begins_word b ≡ true → First (b ∷ bs) (head (part.Token kind.Word) (length (take_while is_word_byte (b ∷ bs))))
 word_sound b bs begins =
     let run = take_while is_word_byte (b ∷ bs) in
@@ -60,19 +53,19 @@ word_sound b bs begins =
     }
 
 -- a number, or why it is none, by its word bytes
-number_found : (b : ℕ) (bs rest : List ℕ) (r : Result Number Breach) → is_digit b ≡ true → list_all is_word_byte bs ≡ true → StopsBefore is_word_byte rest → IsOutcome (b ∷ bs) r
+number_found : (b : ℕ) (bs rest : List ℕ) (r : Result Number LexBreach) → is_digit b ≡ true → list_all is_word_byte bs ≡ true → StopsBefore is_word_byte rest → IsOutcome (b ∷ bs) r
     → Finds ((b ∷ bs) ++ rest) (head_of_number (length (b ∷ bs)) r)
 number_found b bs rest (Ok n) digit all stops outcome = record { piece = Kept (record { kind = kind.Number; bytes = b ∷ bs }); rest = rest; is = refl; stands = ((n, outcome), stops); head = refl }
 number_found b bs rest (Err breach.BadByte) digit all stops outcome = absurd outcome
 number_found b bs rest (Err breach.NumberTooWide) digit all stops outcome = record {
-  breach = λ before. number_too_wide (b ∷ bs) rest outcome stops refl (sym (here before ((b ∷ bs) ++ rest) breach.NumberTooWide));
+  breach = number_too_wide (b ∷ bs) rest outcome stops refl refl refl;
   within = omega arith;
 }
 number_found b bs rest (Err breach.TextNotClosed) digit all stops outcome = absurd outcome
 number_found b bs rest (Err breach.CommentNotClosed) digit all stops outcome = absurd outcome
 number_found b bs rest (Err breach.Directive) digit all stops outcome = absurd outcome
 number_found b bs rest (Err breach.BadNumber) digit all stops outcome = record {
-  breach = λ before. bad_number (b ∷ bs) rest (digit, (all, outcome)) stops refl (sym (here before ((b ∷ bs) ++ rest) breach.BadNumber));
+  breach = bad_number (b ∷ bs) rest (digit, (all, outcome)) stops refl refl refl;
   within = omega arith;
 }
 
@@ -194,14 +187,15 @@ complete (Kept l) rest stands = token_complete l.kind l.bytes rest stands.0 stan
 
 -- ---- a breach that stands there is the code's flaw
 
--- the code finds this same where these bytes begin
-pub record Flawed (before rest : List ℕ) (e : LexError) : Type 0 where
+-- the code finds this same breach, after these same bytes
+pub record Flawed (rest : List ℕ) (b : LexBreach) (before : List ℕ) : Type 0 where
   pub flaw : Flaw
   pub head : head_of rest ≡ Err flaw
-  pub error : e ≡ error_at before rest flaw
+  pub same : b ≡ flaw.breach
+  pub taken : before ≡ take flaw.before rest
 
-flawed_here : (before rest : List ℕ) (e : LexError) (k : Breach) → head_of rest ≡ Err (flaw k 0) → e ≡ error_of k (position_after before) → Flawed before rest e
-flawed_here before rest e k head same = record { flaw = flaw k 0; head = head; error = same ∙ here before rest k }
+flawed_here : (rest before : List ℕ) (b k : LexBreach) → head_of rest ≡ Err (flaw k 0) → b ≡ k → before ≡ [] → Flawed rest b before
+flawed_here rest before b k head same none = record { flaw = flaw k 0; head = head; same = same; taken = none }
 
 nothing_at : (b : ℕ) (bs : List ℕ) → BeginsNothing (b ∷ bs) → head_of (b ∷ bs) ≡ Err (flaw breach.BadByte 0)
 unfolding head_of head_at
@@ -217,49 +211,51 @@ written_append : (ps qs : List Part) → written (ps ++ qs) ≡ written ps ++ wr
 written_append [] qs = refl
 written_append (p ∷ ps) qs = ap (λ r. written_part p ++ r) (written_append ps qs) ∙ sym (append_assoc (written_part p) (written ps) (written qs))
 
-stray_at : (before : List ℕ) (parts later : List Part) (after : List ℕ) (e : LexError) → AreParts (parts ++ Stray ∷ later) (34 ∷ after) → HasNoStray parts
-    → e ≡ error.BadByte (position_after (before ++ 34 ∷ written parts)) → Flawed before (34 ∷ (written (parts ++ Stray ∷ later) ++ 34 ∷ after)) e
+stray_at : (parts later : List Part) (after before : List ℕ) (b : LexBreach) → AreParts (parts ++ Stray ∷ later) (34 ∷ after) → HasNoStray parts
+    → b ≡ breach.BadByte → before ≡ 34 ∷ written parts → Flawed (34 ∷ (written (parts ++ Stray ∷ later) ++ 34 ∷ after)) b before
 unfolding head_of head_at
-stray_at before parts later after e are clean same =
+stray_at parts later after before b are clean same prefix =
     let tail = written (Stray ∷ later) ++ 34 ∷ after in
     let rest = 34 ∷ (written (parts ++ Stray ∷ later) ++ 34 ∷ after) in
     let whole : rest ≡ (34 ∷ written parts) ++ tail = ap (λ r. 34 ∷ (r ++ 34 ∷ after)) (written_append parts (Stray ∷ later)) ∙ ap (λ r. 34 ∷ r) (append_assoc (written parts) (written (Stray ∷ later)) (34 ∷ after)) in
     let n : length (written parts) + 1 ≡ length (34 ∷ written parts) = omega arith in
-    let front : take (length (written parts) + 1) rest ≡ 34 ∷ written parts = ap (take (length (written parts) + 1)) whole ∙ take_at (34 ∷ written parts) tail (length (written parts) + 1) (sym n) in
+    let taken : take (length (written parts) + 1) rest ≡ 34 ∷ written parts = ap (take (length (written parts) + 1)) whole ∙ take_at (34 ∷ written parts) tail (length (written parts) + 1) (sym n) in
     record {
       flaw = flaw breach.BadByte (length (written parts) + 1);
       head = stray_complete parts later after are clean;
-      error = same ∙ ap (λ x. error.BadByte (position_after (before ++ x))) (sym front);
+      same = same;
+      taken = prefix ∙ sym taken;
     }
 
-text_flawed : (before : List ℕ) (parts : List Part) (after : List ℕ) (e : LexError) → AreParts parts after → EndsLine after → e ≡ error.TextNotClosed (position_after before) → Flawed before (34 ∷ (written parts ++ after)) e
+text_flawed : (parts : List Part) (after before : List ℕ) (b : LexBreach) → AreParts parts after → EndsLine after → b ≡ breach.TextNotClosed → before ≡ [] → Flawed (34 ∷ (written parts ++ after)) b before
 unfolding head_of head_at
-text_flawed before parts after e are ends same = flawed_here before (34 ∷ (written parts ++ after)) e breach.TextNotClosed (open_complete parts after are ends) same
+text_flawed parts after before b are ends same none = flawed_here (34 ∷ (written parts ++ after)) before b breach.TextNotClosed (open_complete parts after are ends) same none
 
-comment_flawed : (before after : List ℕ) (e : LexError) → HasNoEnd after → e ≡ error.CommentNotClosed (position_after before) → Flawed before (codes "/*" ++ after) e
+comment_flawed : (after before : List ℕ) (b : LexBreach) → HasNoEnd after → b ≡ breach.CommentNotClosed → before ≡ [] → Flawed (codes "/*" ++ after) b before
 unfolding head_of head_at
-comment_flawed before after e none same = flawed_here before (codes "/*" ++ after) e breach.CommentNotClosed (block_open after none) same
+comment_flawed after before b no_end same none = flawed_here (codes "/*" ++ after) before b breach.CommentNotClosed (block_open after no_end) same none
 
-directive_flawed : (before line after : List ℕ) (e : LexError) → list_all is_line_byte line ≡ true → StopsBefore is_line_byte after → (IsDirective (35 ∷ line) → ⊥) → e ≡ error.Directive (position_after before) → Flawed before (35 ∷ (line ++ after)) e
+directive_flawed : (line after before : List ℕ) (b : LexBreach) → list_all is_line_byte line ≡ true → StopsBefore is_line_byte after → (IsDirective (35 ∷ line) → ⊥) → b ≡ breach.Directive → before ≡ []
+    → Flawed (35 ∷ (line ++ after)) b before
 unfolding head_of head_at
-directive_flawed before line after e on stops none same = flawed_here before (35 ∷ (line ++ after)) e breach.Directive (directive_bad line after on stops none) same
+directive_flawed line after before b on stops bad same none = flawed_here (35 ∷ (line ++ after)) before b breach.Directive (directive_bad line after on stops bad) same none
 
-number_flawed : (before bs after : List ℕ) (e : LexError) → IsBadNumber bs → StopsBefore is_word_byte after → e ≡ error.BadNumber (position_after before) → Flawed before (bs ++ after) e
-number_flawed before [] after e is stops same = absurd is
-number_flawed before (b ∷ bs) after e is stops same =
-    let all = and_from (is_word_byte b) (list_all is_word_byte bs) (digit_goes_on b is.0) is.1.0 in
-    flawed_here before ((b ∷ bs) ++ after) e breach.BadNumber (digits_at b bs after is.0 all stops ∙ ap (head_of_number (length (b ∷ bs))) (bad_complete (b ∷ bs) is.1.1)) same
+number_flawed : (bs after before : List ℕ) (b : LexBreach) → IsBadNumber bs → StopsBefore is_word_byte after → b ≡ breach.BadNumber → before ≡ [] → Flawed (bs ++ after) b before
+number_flawed [] after before b is stops same none = absurd is
+number_flawed (x ∷ bs) after before b is stops same none =
+    let all = and_from (is_word_byte x) (list_all is_word_byte bs) (digit_goes_on x is.0) is.1.0 in
+    flawed_here ((x ∷ bs) ++ after) before b breach.BadNumber (digits_at x bs after is.0 all stops ∙ ap (head_of_number (length (x ∷ bs))) (bad_complete (x ∷ bs) is.1.1)) same none
 
-begins_flawed : (before rest : List ℕ) (e : LexError) → BeginsNothing rest → e ≡ error.BadByte (position_after before) → Flawed before rest e
-begins_flawed before [] e is same = absurd (let P : ⊥ = cc (is.is) in P)
-begins_flawed before (b ∷ bs) e is same = flawed_here before (b ∷ bs) e breach.BadByte (nothing_at b bs is) same
+begins_flawed : (rest before : List ℕ) (b : LexBreach) → BeginsNothing rest → b ≡ breach.BadByte → before ≡ [] → Flawed rest b before
+begins_flawed [] before b is same none = absurd (let P : ⊥ = cc (is.is) in P)
+begins_flawed (x ∷ bs) before b is same none = flawed_here (x ∷ bs) before b breach.BadByte (nothing_at x bs is) same none
 
-pub flawed : (before rest : List ℕ) (e : LexError) → IsBreach before rest e → Flawed before rest e
-flawed before rest e (bad_byte is same) = begins_flawed before rest e is same
-flawed before rest e (bad_escape parts later after are clean is same) = subst (λ r. Flawed before r e) (sym is) (stray_at before parts later after e are clean same)
-flawed before rest e (text_not_closed parts after are ends is same) = subst (λ r. Flawed before r e) (sym is) (text_flawed before parts after e are ends same)
-flawed before rest e (number_too_wide bs after wide stops is same) = subst (λ r. Flawed before r e) (sym is)
-    (flawed_here before (bs ++ after) e breach.NumberTooWide (numeral_at bs after wide.base wide.digits wide.suffix wide.numeral stops ∙ ap (head_of_number (length bs)) (wide_complete bs wide)) same)
-flawed before rest e (bad_number bs after bad stops is same) = subst (λ r. Flawed before r e) (sym is) (number_flawed before bs after e bad stops same)
-flawed before rest e (comment_not_closed after none is same) = subst (λ r. Flawed before r e) (sym is) (comment_flawed before after e none same)
-flawed before rest e (directive line after on stops none is same) = subst (λ r. Flawed before r e) (sym is) (directive_flawed before line after e on stops none same)
+pub flawed : (rest : List ℕ) (b : LexBreach) (before : List ℕ) → IsBreach rest b before → Flawed rest b before
+flawed rest b before (bad_byte is same none) = begins_flawed rest before b is same none
+flawed rest b before (bad_escape parts later after are clean is same none) = subst (λ r. Flawed r b before) (sym is) (stray_at parts later after before b are clean same none)
+flawed rest b before (text_not_closed parts after are ends is same none) = subst (λ r. Flawed r b before) (sym is) (text_flawed parts after before b are ends same none)
+flawed rest b before (number_too_wide bs after wide stops is same none) = subst (λ r. Flawed r b before) (sym is)
+    (flawed_here (bs ++ after) before b breach.NumberTooWide (numeral_at bs after wide.base wide.digits wide.suffix wide.numeral stops ∙ ap (head_of_number (length bs)) (wide_complete bs wide)) same none)
+flawed rest b before (bad_number bs after bad stops is same none) = subst (λ r. Flawed r b before) (sym is) (number_flawed bs after before b bad stops same none)
+flawed rest b before (comment_not_closed after no_end is same none) = subst (λ r. Flawed r b before) (sym is) (comment_flawed after before b no_end same none)
+flawed rest b before (directive line after on stops bad is same none) = subst (λ r. Flawed r b before) (sym is) (directive_flawed line after before b on stops bad same none)

@@ -1,10 +1,9 @@
 -- What the code finds where a text begins.
-use Rattle.std.proofs.Common.{◌≡◌, ℕ, ◌+◌, Bool, true, false, cond, eqb, List, [], ◌∷◌, ◌++◌, length, take, drop, Ok, Err, Result, ◌⊎◌, inl, inr, ⊎_elim, refl, sym, ap, ◌∙◌, subst, arith, append_assoc, append-nil, length-append, add-one}
+use Rattle.std.proofs.Common.{◌≡◌, ℕ, ◌+◌, Bool, true, false, cond, eqb, List, [], ◌∷◌, ◌++◌, length, take, drop, Ok, Err, Result, ◌⊎◌, inl, inr, ⊎_elim, refl, sym, ap, ◌∙◌, subst, arith, append_assoc, length-append, add-one}
 use Rattle.std.proofs.lemmas.Bool.{eqb-true, ne_eqb, eq-eqb, cond-true, cond-false}
 use Rattle.std.proofs.lemmas.Bool.Decides.{nat_tests}
 use Rattle.std.proofs.lemmas.List.{take_at, drop_at}
-use Rattle.ooo_lexer.specs.declared.error.LexError.TheVariants as error
-use Rattle.ooo_lexer.specs.declared.flaw.Breach.TheVariants as breach
+use Rattle.ooo_lexer.specs.declared.breach.LexBreach.TheVariants as breach
 use Rattle.ooo_lexer.specs.declared.flaw.Flaw.{Flaw}
 use Rattle.ooo_lexer.specs.declared.heads.Head.{Head}
 use Rattle.ooo_lexer.specs.declared.heads.PieceKind.TheVariants as piece
@@ -13,7 +12,6 @@ use Rattle.ooo_lexer.specs.Bytes.{is_text_byte, is_escape, ends_line}
 use Rattle.ooo_lexer.specs.Breaches.{text_not_closed, bad_escape}
 use Rattle.ooo_lexer.specs.Heads.{flaw, head, parts_length, text_head}
 use Rattle.ooo_lexer.specs.Pieces.{Kept}
-use Rattle.ooo_lexer.specs.Places.{position_after}
 use Rattle.ooo_lexer.specs.Runs.{begins_with}
 use Rattle.ooo_lexer.specs.Texts.{Part, Byte, Escape, Stray, written, HasNoStray, MayStand, AreParts, EndsLine}
 use Rattle.ooo_lexer.proofs.Finds.{Finds, First, IsFlaw, by_test}
@@ -139,7 +137,7 @@ found_closed parts rest stand clean = record {
 
 found_open : (parts : List Part) (after : List ℕ) → AreParts parts after → EndsLine after → IsFlaw (34 ∷ (written parts ++ after)) (flaw breach.TextNotClosed 0)
 found_open parts after stand ends = record {
-  breach = λ before. text_not_closed parts after stand ends refl (ap (λ b. error.TextNotClosed (position_after b)) (append-nil before));
+  breach = text_not_closed parts after stand ends refl refl refl;
   within = omega arith;
 }
 
@@ -151,7 +149,7 @@ found_stray parts later after stand clean =
     let e : bs ≡ written parts ++ rest = written_apart parts (Stray ∷ later) (34 ∷ after) in
     let front : take (n + 1) (34 ∷ bs) ≡ 34 ∷ written parts = rw add-one (ap (λ r. 34 ∷ r) (ap (take n) e ∙ take_at (written parts) rest n refl)) in
     record {
-      breach = λ before. bad_escape parts later after stand clean refl (ap (λ r. error.BadByte (position_after (before ++ r))) front);
+      breach = bad_escape parts later after stand clean refl refl front;
       within = omega (arith, ap length e, length-append (written parts) rest);
     }
 

@@ -9,8 +9,8 @@ use Rattle.std.proofs.lemmas.Bool.Decides.{Decides-eqb, nat_tests}
 use Rattle.std.proofs.lemmas.List.Elements.{All-contains, All-from_recursion}
 use Rattle.std.proofs.lemmas.Map.Views.{Contains-from_any}
 use Rattle.std.proofs.lemmas.Slice.Eq.{starts_is}
-use Rattle.ooo_lexer.specs.declared.flaw.Breach.{Breach}
-use Rattle.ooo_lexer.specs.declared.flaw.Breach.TheVariants as breach
+use Rattle.ooo_lexer.specs.declared.breach.LexBreach.{LexBreach}
+use Rattle.ooo_lexer.specs.declared.breach.LexBreach.TheVariants as breach
 use Rattle.ooo_lexer.specs.declared.numbers.Base.{Base}
 use Rattle.ooo_lexer.specs.declared.numbers.Base.TheVariants as base
 use Rattle.ooo_lexer.specs.declared.numbers.Suffix.{Suffix}
@@ -26,7 +26,7 @@ use Rattle.ooo_lexer.proofs.Finds.{by_test, passes_each, nothing_is, same_bytes}
 use Rattle.ooo_lexer.proofs.Runs.{run_front, run_rest, run_passes, run_joins, all_wider, all_append}
 
 -- what the code computes of bytes is what they are
-abbrev pub IsOutcome : List ℕ → Result Number Breach → Type 0
+abbrev pub IsOutcome : List ℕ → Result Number LexBreach → Type 0
 IsOutcome bs (Ok n) = IsNumberOf bs n
 IsOutcome bs (Err breach.BadByte) = ⊥
 IsOutcome bs (Err breach.NumberTooWide) = IsTooWide bs
@@ -141,14 +141,14 @@ numeral_read bs b ds s n = ap number_of n.is ∙ numeral_at b n.prefix ds n.endi
 -- ---- what the code reads is a numeral
 
 -- the code's answer is that of a numeral, or there is none
-pub record Reads (bs : List ℕ) (r : Result Number Breach) : Type 0 where
+pub record Reads (bs : List ℕ) (r : Result Number LexBreach) : Type 0 where
   pub base : Base
   pub digits : List ℕ
   pub suffix : Suffix
   pub numeral : IsNumeral bs base digits suffix
   pub is : r ≡ number_with base digits (Some suffix)
 
-abbrev Found : List ℕ → Result Number Breach → Type 0
+abbrev Found : List ℕ → Result Number LexBreach → Type 0
 Found bs r = Reads bs r ⊎ (r ≡ Err breach.BadNumber)
 
 after_found : (b : Base) (bs p rest : List ℕ) → Contains (prefixes b) p → bs ≡ p ++ rest → Found bs (number_after b rest)
@@ -274,6 +274,6 @@ IsAnswer bs answer = MatchOption answer ((n : Number) → IsNumberOf bs n → �
 pub answer_sound : (bs : List ℕ) → IsAnswer bs (result_ok (number_of bs))
 answer_sound bs = at (number_of bs) refl (number_sound bs)
   where
-    at : (r : Result Number Breach) → number_of bs ≡ r → IsOutcome bs r → IsAnswer bs (result_ok r)
+    at : (r : Result Number LexBreach) → number_of bs ≡ r → IsOutcome bs r → IsAnswer bs (result_ok r)
     at (Ok n) i o = o
     at (Err breach) i o = λ n is. let j : Ok n ≡ Err breach = sym (number_complete bs n is) ∙ i in absurd cc

@@ -5,9 +5,9 @@ use Rattle.std.proofs.lemmas.Bool.{cond-true, not-true, eqb-true}
 use Rattle.std.proofs.lemmas.List.{append-nil, length-drop, reverse-append}
 use Rattle.std.proofs.lemmas.List.Sums.{sum_by_push, suffix_len-le-length, count_by-le-length}
 use Rattle.ooo_lexer.specs.Bytes.{is_line_byte}
-use Rattle.ooo_lexer.specs.declared.place.Place.{Place}
-use Rattle.ooo_lexer.specs.Places.{line_after, column_after, position_after}
-use Rattle.ooo_lexer.specs.Steps.{place_after_byte, place_after, position_of}
+use Rattle.ooo_lexer.specs.declared.cursor.Cursor.{Cursor}
+use Rattle.ooo_lexer.specs.Positions.{line_after, column_after, position_after}
+use Rattle.ooo_lexer.specs.Steps.{cursor_after_byte, cursor_after, position_of}
 use Rattle.ooo_lexer.proofs.Finds.{by_test}
 
 -- the column as a count
@@ -40,19 +40,19 @@ column_after_byte xs b on_line =
     let h = column_is (xs ++ b ∷ []) in
     omega arith
 
--- the place is the one after these bytes
-pub record IsAfter (before : List ℕ) (at : Place) : Type 0 where
+-- the cursor is the one after these bytes
+pub record IsAfter (before : List ℕ) (at : Cursor) : Type 0 where
   pub start : at.start ≡ length before
   pub line : at.line ≡ line_after before
   pub column : at.column ≡ column_after before
 
-pub first_place : IsAfter [] (record { start = 0; line = 1; column = 1 })
-first_place = record { start = refl; line = refl; column = refl }
+pub first_cursor : IsAfter [] (record { start = 0; line = 1; column = 1 })
+first_cursor = record { start = refl; line = refl; column = refl }
 
-after_byte : (before : List ℕ) (at : Place) (b : ℕ) → IsAfter before at → IsAfter (before ++ b ∷ []) (place_after_byte at b)
+after_byte : (before : List ℕ) (at : Cursor) (b : ℕ) → IsAfter before at → IsAfter (before ++ b ∷ []) (cursor_after_byte at b)
 after_byte before at b a = by_test (eqb b 10)
     (λ t. let feed = eqb-true b 10 t in
-    subst (λ b. IsAfter (before ++ b ∷ []) (place_after_byte at b)) (sym feed) (record {
+    subst (λ b. IsAfter (before ++ b ∷ []) (cursor_after_byte at b)) (sym feed) (record {
       start = omega (arith, a.start, length-append before (10 ∷ []));
       line = omega (arith, a.line, line_after_feed before);
       column = sym (column_after_feed before);
@@ -64,11 +64,11 @@ after_byte before at b a = by_test (eqb b 10)
       column = omega (arith, a.column, column_after_byte before b on_line);
     }))
 
-pub after_bytes : (before : List ℕ) (at : Place) (bs : List ℕ) → IsAfter before at → IsAfter (before ++ bs) (place_after at bs)
+pub after_bytes : (before : List ℕ) (at : Cursor) (bs : List ℕ) → IsAfter before at → IsAfter (before ++ bs) (cursor_after at bs)
 after_bytes before at [] a = subst (λ x. IsAfter x at) (sym (append-nil before)) a
-after_bytes before at (b ∷ bs) a = subst (λ x. IsAfter x (place_after at (b ∷ bs))) (append_assoc before (b ∷ []) bs) (after_bytes (before ++ b ∷ []) (place_after_byte at b) bs (after_byte before at b a))
+after_bytes before at (b ∷ bs) a = subst (λ x. IsAfter x (cursor_after at (b ∷ bs))) (append_assoc before (b ∷ []) bs) (after_bytes (before ++ b ∷ []) (cursor_after_byte at b) bs (after_byte before at b a))
 
-pub position_is : (before : List ℕ) (at : Place) → IsAfter before at → position_of at ≡ position_after before
+pub position_is : (before : List ℕ) (at : Cursor) → IsAfter before at → position_of at ≡ position_after before
 position_is before at a = let l = a.line in let c = a.column in cc
 
 -- the line and the column are no larger than the count of bytes, and one

@@ -1,20 +1,20 @@
 -- What the loop keeps: the source up to here is cut into pieces with these tokens.
 use Rattle.std.proofs.Common.{◌≡◌, ℕ, ◌+◌, ◌<◌, ◌≤◌, List, [], ◌∷◌, ◌++◌, length, take, drop, Ok, Err, refl, sym, ap, ◌∙◌, subst, arith, append_assoc, append-nil, length-append}
 use Rattle.std.proofs.lemmas.List.{take_at, drop_at}
-use Rattle.ooo_lexer.specs.declared.error.LexError.{LexError}
 use Rattle.ooo_lexer.specs.declared.flaw.Flaw.{Flaw}
+use Rattle.ooo_lexer.specs.declared.position.Position.{Position}
 use Rattle.ooo_lexer.specs.declared.token.Token.{Token}
 use Rattle.ooo_lexer.specs.declared.heads.Head.{Head}
-use Rattle.ooo_lexer.specs.declared.place.Place.{Place}
+use Rattle.ooo_lexer.specs.declared.cursor.Cursor.{Cursor}
 use Rattle.ooo_lexer.specs.Breaches.{HasBreach}
-use Rattle.ooo_lexer.specs.Heads.{error_of, error_at, head_of}
+use Rattle.ooo_lexer.specs.Heads.{head_of}
 use Rattle.ooo_lexer.specs.Pieces.{Piece, Space, Comment, Directive, Kept, bytes_of, StandsBefore, joined, EachStands}
-use Rattle.ooo_lexer.specs.Places.{token_after, placed}
+use Rattle.ooo_lexer.specs.Positions.{token_after, tokens_after}
 use Rattle.ooo_lexer.specs.Spans.{AreTokensOf}
-use Rattle.ooo_lexer.specs.Steps.{place_after, position_of, tokens_of}
+use Rattle.ooo_lexer.specs.Steps.{cursor_after, position_of, tokens_of}
 use Rattle.ooo_lexer.proofs.Finds.{kind_of, First, IsFlaw, Finds}
 use Rattle.ooo_lexer.proofs.Firsts.{sound}
-use Rattle.ooo_lexer.proofs.Positions.{IsAfter, first_place, after_bytes, position_is, line_bound, column_bound}
+use Rattle.ooo_lexer.proofs.Positions.{IsAfter, first_cursor, after_bytes, position_is, line_bound, column_bound}
 use Rattle.ooo_lexer.proofs.Cuttings.{piece_has_bytes}
 
 -- ---- one more piece
@@ -34,14 +34,14 @@ pub stands_push : (ps : List Piece) (p : Piece) (r : List ℕ) → EachStands ps
 stands_push [] p r each last = (last, tt)
 stands_push (q ∷ ps) p r each last = (subst (StandsBefore q) (sym (last_follows ps p r)) each.0, stands_push ps p r each.1 last)
 
-placed_append : (before : List ℕ) (ps qs : List Piece) → placed before (ps ++ qs) ≡ placed before ps ++ placed (before ++ joined ps) qs
-placed_append before [] qs = ap (λ b. placed b qs) (sym (append-nil before))
-placed_append before (Space b ∷ ps) qs = placed_append (before ++ b ∷ []) ps qs ∙ ap (λ x. placed (before ++ b ∷ []) ps ++ placed x qs) (append_assoc before (b ∷ []) (joined ps))
-placed_append before (Comment bs ∷ ps) qs = placed_append (before ++ bs) ps qs ∙ ap (λ x. placed (before ++ bs) ps ++ placed x qs) (append_assoc before bs (joined ps))
-placed_append before (Directive bs ∷ ps) qs = placed_append (before ++ bs) ps qs ∙ ap (λ x. placed (before ++ bs) ps ++ placed x qs) (append_assoc before bs (joined ps))
-placed_append before (Kept l ∷ ps) qs = ap (λ ts. token_after before l ∷ ts) (placed_append (before ++ l.bytes) ps qs ∙ ap (λ x. placed (before ++ l.bytes) ps ++ placed x qs) (append_assoc before l.bytes (joined ps)))
+placed_append : (before : List ℕ) (ps qs : List Piece) → tokens_after before (ps ++ qs) ≡ tokens_after before ps ++ tokens_after (before ++ joined ps) qs
+placed_append before [] qs = ap (λ b. tokens_after b qs) (sym (append-nil before))
+placed_append before (Space b ∷ ps) qs = placed_append (before ++ b ∷ []) ps qs ∙ ap (λ x. tokens_after (before ++ b ∷ []) ps ++ tokens_after x qs) (append_assoc before (b ∷ []) (joined ps))
+placed_append before (Comment bs ∷ ps) qs = placed_append (before ++ bs) ps qs ∙ ap (λ x. tokens_after (before ++ bs) ps ++ tokens_after x qs) (append_assoc before bs (joined ps))
+placed_append before (Directive bs ∷ ps) qs = placed_append (before ++ bs) ps qs ∙ ap (λ x. tokens_after (before ++ bs) ps ++ tokens_after x qs) (append_assoc before bs (joined ps))
+placed_append before (Kept l ∷ ps) qs = ap (λ ts. token_after before l ∷ ts) (placed_append (before ++ l.bytes) ps qs ∙ ap (λ x. tokens_after (before ++ l.bytes) ps ++ tokens_after x qs) (append_assoc before l.bytes (joined ps)))
 
-tokens_of_piece : (before : List ℕ) (at : Place) (p : Piece) → IsAfter before at → tokens_of (kind_of p) (length (bytes_of p)) at ≡ placed before (p ∷ [])
+tokens_of_piece : (before : List ℕ) (at : Cursor) (p : Piece) → IsAfter before at → tokens_of (kind_of p) (length (bytes_of p)) at ≡ tokens_after before (p ∷ [])
 tokens_of_piece before at (Space b) a = refl
 tokens_of_piece before at (Comment bs) a = refl
 tokens_of_piece before at (Directive bs) a = refl
@@ -49,24 +49,24 @@ tokens_of_piece before at (Kept l) a = let s = a.start in let n = a.line in let 
 
 -- ---- what the loop keeps
 
-pub record Reached (source rest : List ℕ) (tokens : List Token) (at : Place) : Type 0 where
+pub record Reached (source rest : List ℕ) (tokens : List Token) (at : Cursor) : Type 0 where
   pub front : List Piece
   pub whole : joined front ++ rest ≡ source
   pub fits : EachStands front rest
-  pub place : IsAfter (joined front) at
-  pub kept : tokens ≡ placed [] front
+  pub cursor : IsAfter (joined front) at
+  pub kept : tokens ≡ tokens_after [] front
 
 pub reached_none : (source : List ℕ) → Reached source source [] (record { start = 0; line = 1; column = 1 })
-reached_none source = record { front = []; whole = refl; fits = tt; place = first_place; kept = refl }
+reached_none source = record { front = []; whole = refl; fits = tt; cursor = first_cursor; kept = refl }
 
-reached_piece : (source : List ℕ) (tokens : List Token) (at : Place) (p : Piece) (r : List ℕ) → Reached source (bytes_of p ++ r) tokens at → StandsBefore p r
-    → Reached source r (tokens ++ tokens_of (kind_of p) (length (bytes_of p)) at) (place_after at (bytes_of p))
+reached_piece : (source : List ℕ) (tokens : List Token) (at : Cursor) (p : Piece) (r : List ℕ) → Reached source (bytes_of p ++ r) tokens at → StandsBefore p r
+    → Reached source r (tokens ++ tokens_of (kind_of p) (length (bytes_of p)) at) (cursor_after at (bytes_of p))
 reached_piece source tokens at p r now stands = record {
   front = now.front ++ p ∷ [];
   whole = last_follows now.front p r ∙ now.whole;
   fits = stands_push now.front p r now.fits stands;
-  place = subst (λ x. IsAfter x (place_after at (bytes_of p))) (sym (joined_push now.front p)) (after_bytes (joined now.front) at (bytes_of p) now.place);
-  kept = ap (λ ts. ts ++ tokens_of (kind_of p) (length (bytes_of p)) at) now.kept ∙ ap (λ ts. placed [] now.front ++ ts) (tokens_of_piece (joined now.front) at p now.place) ∙ sym (placed_append [] now.front (p ∷ []));
+  cursor = subst (λ x. IsAfter x (cursor_after at (bytes_of p))) (sym (joined_push now.front p)) (after_bytes (joined now.front) at (bytes_of p) now.cursor);
+  kept = ap (λ ts. ts ++ tokens_of (kind_of p) (length (bytes_of p)) at) now.kept ∙ ap (λ ts. tokens_after [] now.front ++ ts) (tokens_of_piece (joined now.front) at p now.cursor) ∙ sym (placed_append [] now.front (p ∷ []));
 }
 
 pub finds : (rest : List ℕ) → 0 < length rest → Finds rest (head_of rest)
@@ -79,8 +79,8 @@ first_of rest h some e = subst (Finds rest) e (finds rest some)
 pub flaw_of : (rest : List ℕ) (f : Flaw) → 0 < length rest → head_of rest ≡ Err f → IsFlaw rest f
 flaw_of rest f some e = subst (Finds rest) e (finds rest some)
 
-pub reached_more : (source rest : List ℕ) (tokens : List Token) (at : Place) (h : Head) → Reached source rest tokens at → 0 < length rest → head_of rest ≡ Ok h
-    → Reached source (drop h.length rest) (tokens ++ tokens_of h.kind h.length at) (place_after at (take h.length rest))
+pub reached_more : (source rest : List ℕ) (tokens : List Token) (at : Cursor) (h : Head) → Reached source rest tokens at → 0 < length rest → head_of rest ≡ Ok h
+    → Reached source (drop h.length rest) (tokens ++ tokens_of h.kind h.length at) (cursor_after at (take h.length rest))
 reached_more source rest tokens at h now some e =
     let f = first_of rest h some e in
     let p = f.piece in
@@ -88,17 +88,17 @@ reached_more source rest tokens at h now some e =
     let length_is : h.length ≡ length (bytes_of p) = ap (λ (k : Head). k.length) f.head in
     let length_back = sym length_is in
     let kind_is : h.kind ≡ kind_of p = ap (λ (k : Head). k.kind) f.head in
-    let R : List ℕ → List Token → List ℕ → Type 0 = λ x ts bs. Reached source x (tokens ++ ts) (place_after at bs) in
+    let R : List ℕ → List Token → List ℕ → Type 0 = λ x ts bs. Reached source x (tokens ++ ts) (cursor_after at bs) in
     let front = ap (take h.length) f.is ∙ take_at (bytes_of p) f.rest h.length length_back in
     let back = ap (drop h.length) f.is ∙ drop_at (bytes_of p) f.rest h.length length_back in
     let more : tokens_of h.kind h.length at ≡ tokens_of (kind_of p) (length (bytes_of p)) at = cc in
     subst (λ x. R x (tokens_of h.kind h.length at) (take h.length rest)) (sym back) (subst (λ ts. R f.rest ts (take h.length rest)) (sym more) (subst (λ bs. R f.rest (tokens_of (kind_of p) (length (bytes_of p)) at) bs) (sym front) next))
 
 -- the same, by what the code has after the step
-pub reached_next : (source rest piece more : List ℕ) (tokens longer : List Token) (at next : Place) (h : Head) → Reached source rest tokens at → 0 < length rest → head_of rest ≡ Ok h
-    → piece ≡ take h.length rest → more ≡ drop h.length rest → longer ≡ tokens ++ tokens_of h.kind h.length at → next ≡ place_after at piece → Reached source more longer next
+pub reached_next : (source rest piece more : List ℕ) (tokens longer : List Token) (at next : Cursor) (h : Head) → Reached source rest tokens at → 0 < length rest → head_of rest ≡ Ok h
+    → piece ≡ take h.length rest → more ≡ drop h.length rest → longer ≡ tokens ++ tokens_of h.kind h.length at → next ≡ cursor_after at piece → Reached source more longer next
 reached_next source rest piece more tokens longer at next h now some e p r t n =
-    let there : next ≡ place_after at (take h.length rest) = n ∙ ap (place_after at) p in
+    let there : next ≡ cursor_after at (take h.length rest) = n ∙ ap (cursor_after at) p in
     subst (λ x. Reached source x longer next) (sym r) (subst (λ x. Reached source (drop h.length rest) x next) (sym t) (subst (λ x. Reached source (drop h.length rest) (tokens ++ tokens_of h.kind h.length at) x) (sym there) (reached_more source rest tokens at h now some e)))
 
 -- the first piece has a byte, and is no longer than the list
@@ -111,28 +111,27 @@ head_fits rest h some e =
     let k = piece_has_bytes f.piece f.rest f.stands in
     (omega arith, omega arith)
 
--- the numbers of a place, with what is left, are no larger than the source
-pub record PlaceFits (source rest : List ℕ) (at : Place) : Type 0 where
+-- the numbers of a cursor, with what is left, are no larger than the source
+pub record CursorFits (source rest : List ℕ) (at : Cursor) : Type 0 where
   pub start : at.start + length rest ≡ length source
   pub line : at.line + length rest ≤ length source + 1
   pub column : at.column + length rest ≤ length source + 1
 
-pub place_fits : (source rest : List ℕ) (tokens : List Token) (at : Place) → Reached source rest tokens at → PlaceFits source rest at
-place_fits source rest tokens at now =
+pub cursor_fits : (source rest : List ℕ) (tokens : List Token) (at : Cursor) → Reached source rest tokens at → CursorFits source rest at
+cursor_fits source rest tokens at now =
     let n = ap length now.whole in
     let m = length-append (joined now.front) rest in
-    let s = now.place.start in let l = now.place.line in let c = now.place.column in
+    let s = now.cursor.start in let l = now.cursor.line in let c = now.cursor.column in
     record { start = omega arith; line = omega (arith, line_bound (joined now.front)); column = omega (arith, column_bound (joined now.front)) }
 
 -- ---- what the answers say
 
-pub reached_end : (source : List ℕ) (tokens : List Token) (at : Place) → Reached source [] tokens at → AreTokensOf source tokens
+pub reached_end : (source : List ℕ) (tokens : List Token) (at : Cursor) → Reached source [] tokens at → AreTokensOf source tokens
 reached_end source tokens at now = record { pieces = now.front; cut = record { whole = sym (append-nil (joined now.front)) ∙ now.whole; fits = now.fits }; are = now.kept }
 
--- the code's error is the breach where it stops
-pub reached_breach : (source rest : List ℕ) (tokens : List Token) (at : Place) (f : Flaw) (e : LexError) → Reached source rest tokens at → 0 < length rest → head_of rest ≡ Err f
-    → e ≡ error_of f.breach (position_of (place_after at (take f.before rest))) → HasBreach source e
-reached_breach source rest tokens at f e now some found is =
-    let place = position_is (joined now.front ++ take f.before rest) (place_after at (take f.before rest)) (after_bytes (joined now.front) at (take f.before rest) now.place) in
-    let same : e ≡ error_at (joined now.front) rest f = is ∙ ap (error_of f.breach) place in
-    subst (HasBreach source) (sym same) (record { front = now.front; rest = rest; whole = now.whole; fits = now.fits; breach = (flaw_of rest f some found).breach (joined now.front) })
+-- the code's flaw is the breach where it stops
+pub reached_breach : (source rest : List ℕ) (tokens : List Token) (at : Cursor) (f : Flaw) (position : Position) → Reached source rest tokens at → 0 < length rest → head_of rest ≡ Err f
+    → position ≡ position_of (cursor_after at (take f.before rest)) → HasBreach source f.breach position
+reached_breach source rest tokens at f position now some found is =
+    let there = position_is (joined now.front ++ take f.before rest) (cursor_after at (take f.before rest)) (after_bytes (joined now.front) at (take f.before rest) now.cursor) in
+    record { cut = now.front; rest = rest; before = take f.before rest; whole = now.whole; fits = now.fits; breach = (flaw_of rest f some found).breach; position = is ∙ there }

@@ -1,5 +1,5 @@
 -- Signs: what the code finds is the longest that stands first, and it finds each that does.
-use Rattle.std.proofs.Common.{◌≡◌, ℕ, ◌<◌, ◌≤◌, Bool, true, false, cond, not, eqb, leb, ◌&&◌, ◌||◌, List, [], ◌∷◌, ◌++◌, length, drop, Ok, Err, Result, ⊎_elim, refl, sym, ap, ◌∙◌, subst, arith, append-nil, append_assoc, codes, zero, suc}
+use Rattle.std.proofs.Common.{◌≡◌, ℕ, ◌<◌, ◌≤◌, Bool, true, false, cond, not, eqb, leb, ◌&&◌, ◌||◌, List, [], ◌∷◌, ◌++◌, length, drop, Ok, Err, Result, ⊎_elim, refl, sym, ap, ◌∙◌, subst, arith, append_assoc, codes, zero, suc}
 use Rattle.std.specs.List.{list_all, list_any, starts_with, Contains}
 use Rattle.std.specs.Str.{bytes_eq}
 use Rattle.std.proofs.lemmas.Bool.{and_parts, and_from, or_cases, eqb-true, eqb-false, ne_eqb, not-true, false≢true, false_from_ne_true, leb-true, cond-false}
@@ -9,9 +9,8 @@ use Rattle.std.proofs.lemmas.List.Elements.{All-contains, Contains-append_cases,
 use Rattle.std.proofs.lemmas.List.Sums.{AllPass-from_list_all}
 use Rattle.std.proofs.lemmas.Map.Views.{Contains-from_any}
 use Rattle.std.proofs.lemmas.Slice.Eq.{starts_is}
-use Rattle.ooo_lexer.specs.declared.flaw.Breach.TheVariants as breach
+use Rattle.ooo_lexer.specs.declared.breach.LexBreach.TheVariants as breach
 use Rattle.ooo_lexer.specs.declared.flaw.Flaw.{Flaw}
-use Rattle.ooo_lexer.specs.declared.error.LexError.TheVariants as error
 use Rattle.ooo_lexer.specs.declared.heads.Head.{Head}
 use Rattle.ooo_lexer.specs.declared.heads.PieceKind.TheVariants as piece
 use Rattle.ooo_lexer.specs.declared.token.TokenKind.TheVariants as kind
@@ -20,7 +19,6 @@ use Rattle.ooo_lexer.specs.Bytes.{is_space, is_digit, begins_word, is_word_byte}
 use Rattle.ooo_lexer.specs.Forms.{signs, IsSign, comment_marks}
 use Rattle.ooo_lexer.specs.Heads.{flaw, head, begins_triple, takes_equals, may_be_doubled, is_pair, begins_pair, stands_alone, is_lone_sign, sign, sign_head, mark_head}
 use Rattle.ooo_lexer.specs.Pieces.{Kept, IsLongestSign}
-use Rattle.ooo_lexer.specs.Places.{position_after}
 use Rattle.ooo_lexer.specs.Runs.{begins_with}
 use Rattle.ooo_lexer.proofs.Finds.{First, Finds, passes_each, same_bytes, begins_is}
 
@@ -201,7 +199,7 @@ sign_found b bs line block some =
 pub sign_sound : (b : ℕ) (bs : List ℕ) → is_space b ≡ false → is_word_byte b ≡ false → eqb b 34 ≡ false → eqb b 35 ≡ false → (eqb b 47 && begins_with 47 bs) ≡ false → (eqb b 47 && begins_with 42 bs) ≡ false → Finds (b ∷ bs) (sign_head b bs)
 sign_sound b bs space word text directive line block = subst (Finds (b ∷ bs)) (sym (head_of_length b bs)) (if_test (Finds (b ∷ bs)) (eqb (sign_length (b ∷ bs)) 0) (Err (flaw breach.BadByte 0)) (sign (sign_length (b ∷ bs)))
     (λ none. record {
-      breach = λ before. bad_byte (record {
+      breach = bad_byte (record {
         byte = b;
         others = bs;
         is = refl;
@@ -210,7 +208,7 @@ sign_sound b bs space word text directive line block = subst (Finds (b ∷ bs)) 
         no_text = eqb-false b 34 text;
         no_directive = eqb-false b 35 directive;
         no_sign = λ s after known is. let n = ap sign_length is in let z = eqb-true (sign_length (b ∷ bs)) 0 none in let some = sign_has_bytes s known in omega (arith, at_most s after known);
-      }) (ap (λ before. error.BadByte (position_after before)) (append-nil before));
+      }) refl refl;
       within = omega arith;
     })
     (λ some. sign_found b bs line block (some_length (sign_length (b ∷ bs)) some)))

@@ -1,14 +1,26 @@
 -- Why a source can't be cut, and where.
-use Rattle.std.specs.Prelude.{◌≡◌, ◌≢◌, ℕ, false, List, [], ◌∷◌, ◌++◌, IsTrue, codes}
+use Rattle.std.specs.Prelude.{◌≡◌, ◌≢◌, ℕ, false, List, [], ◌∷◌, ◌++◌, Result, Ok, Err, IsTrue, codes}
 use Rattle.std.specs.List.{list_all}
+use Rattle.ooo_lexer.specs.declared.breach.LexBreach.{LexBreach}
+use Rattle.ooo_lexer.specs.declared.breach.LexBreach.TheVariants as breach
 use Rattle.ooo_lexer.specs.declared.error.LexError.{LexError}
 use Rattle.ooo_lexer.specs.declared.error.LexError.TheVariants as error
+use Rattle.ooo_lexer.specs.declared.position.Position.{Position}
 use Rattle.ooo_lexer.specs.Bytes.{is_space, is_digit, is_word_byte, is_line_byte, StopsBefore}
 use Rattle.ooo_lexer.specs.Forms.{IsSign, HasNoEnd, IsDirective}
 use Rattle.ooo_lexer.specs.Numbers.{IsTooWide, IsNoNumeral}
 use Rattle.ooo_lexer.specs.Texts.{Part, Stray, written, AreParts, HasNoStray, EndsLine}
 use Rattle.ooo_lexer.specs.Pieces.{Piece, joined, EachStands}
-use Rattle.ooo_lexer.specs.Places.{position_after}
+use Rattle.ooo_lexer.specs.Positions.{position_after}
+
+-- a breach's name, as refusals write it
+abbrev pub name_of : LexBreach → List ℕ
+name_of breach.BadByte = codes "BadByte"
+name_of breach.NumberTooWide = codes "NumberTooWide"
+name_of breach.TextNotClosed = codes "TextNotClosed"
+name_of breach.CommentNotClosed = codes "CommentNotClosed"
+name_of breach.Directive = codes "Directive"
+name_of breach.BadNumber = codes "BadNumber"
 
 -- the first byte is no space, no letter, digit or `_`, no double quote and no `#`, and it begins no sign
 pub record BeginsNothing (rest : List ℕ) : Type 0 where
@@ -26,23 +38,38 @@ abbrev pub IsBadNumber : List ℕ → Type 0
 IsBadNumber [] = ⊥
 IsBadNumber (b ∷ bs) = IsTrue (is_digit b) × (IsTrue (list_all is_word_byte bs) × IsNoNumeral (b ∷ bs))
 
--- where no piece stands first: what is wrong, and its place, which is where these bytes begin, but for a stray backslash in a text that is closed, whose own place it is
-pub data IsBreach (before rest : List ℕ) (e : LexError) : Type 0 where
-  bad_byte : BeginsNothing rest → e ≡ error.BadByte (position_after before) → IsBreach before rest e
-  bad_escape : (parts later : List Part) (after : List ℕ) → AreParts (parts ++ Stray ∷ later) (34 ∷ after) → HasNoStray parts → rest ≡ 34 ∷ (written (parts ++ Stray ∷ later) ++ 34 ∷ after)
-      → e ≡ error.BadByte (position_after (before ++ 34 ∷ written parts)) → IsBreach before rest e
-  text_not_closed : (parts : List Part) (after : List ℕ) → AreParts parts after → EndsLine after → rest ≡ 34 ∷ (written parts ++ after)
-      → e ≡ error.TextNotClosed (position_after before) → IsBreach before rest e
-  number_too_wide : (bs after : List ℕ) → IsTooWide bs → StopsBefore is_word_byte after → rest ≡ bs ++ after → e ≡ error.NumberTooWide (position_after before) → IsBreach before rest e
-  bad_number : (bs after : List ℕ) → IsBadNumber bs → StopsBefore is_word_byte after → rest ≡ bs ++ after → e ≡ error.BadNumber (position_after before) → IsBreach before rest e
-  comment_not_closed : (after : List ℕ) → HasNoEnd after → rest ≡ codes "/*" ++ after → e ≡ error.CommentNotClosed (position_after before) → IsBreach before rest e
-  directive : (line after : List ℕ) → IsTrue (list_all is_line_byte line) → StopsBefore is_line_byte after → (IsDirective (35 ∷ line) → ⊥) → rest ≡ 35 ∷ (line ++ after)
-      → e ≡ error.Directive (position_after before) → IsBreach before rest e
+-- no piece stands first in these bytes: what is wrong, and the bytes before it, which are none but for a stray backslash in a text that is closed
+pub data IsBreach (rest : List ℕ) (b : LexBreach) (before : List ℕ) : Type 0 where
+  bad_byte : BeginsNothing rest → b ≡ breach.BadByte → before ≡ [] → IsBreach rest b before
+  bad_escape : (parts later : List Part) (after : List ℕ) → AreParts (parts ++ Stray ∷ later) (34 ∷ after) → HasNoStray parts
+      → rest ≡ 34 ∷ (written (parts ++ Stray ∷ later) ++ 34 ∷ after) → b ≡ breach.BadByte → before ≡ 34 ∷ written parts → IsBreach rest b before
+  text_not_closed : (parts : List Part) (after : List ℕ) → AreParts parts after → EndsLine after
+      → rest ≡ 34 ∷ (written parts ++ after) → b ≡ breach.TextNotClosed → before ≡ [] → IsBreach rest b before
+  number_too_wide : (bs after : List ℕ) → IsTooWide bs → StopsBefore is_word_byte after
+      → rest ≡ bs ++ after → b ≡ breach.NumberTooWide → before ≡ [] → IsBreach rest b before
+  bad_number : (bs after : List ℕ) → IsBadNumber bs → StopsBefore is_word_byte after
+      → rest ≡ bs ++ after → b ≡ breach.BadNumber → before ≡ [] → IsBreach rest b before
+  comment_not_closed : (after : List ℕ) → HasNoEnd after
+      → rest ≡ codes "/*" ++ after → b ≡ breach.CommentNotClosed → before ≡ [] → IsBreach rest b before
+  directive : (line after : List ℕ) → IsTrue (list_all is_line_byte line) → StopsBefore is_line_byte after → (IsDirective (35 ∷ line) → ⊥)
+      → rest ≡ 35 ∷ (line ++ after) → b ≡ breach.Directive → before ≡ [] → IsBreach rest b before
 
 -- the source begins with pieces that are cut, and what follows them is a breach: the leftmost, since all that stands before it is cut
-pub record HasBreach (source : List ℕ) (e : LexError) : Type 0 where
-  pub front : List Piece
+pub record HasBreach (source : List ℕ) (b : LexBreach) (at : Position) : Type 0 where
+  pub cut : List Piece
   pub rest : List ℕ
-  pub whole : joined front ++ rest ≡ source
-  pub fits : EachStands front rest
-  pub breach : IsBreach (joined front) rest e
+  pub before : List ℕ
+  pub whole : joined cut ++ rest ≡ source
+  pub fits : EachStands cut rest
+  pub breach : IsBreach rest b before
+  pub position : at ≡ position_after (joined cut ++ before)
+
+-- a breach of the source is this one, at this position
+abbrev pub IsOnlyBreach : List ℕ → LexBreach → Position → Type 0
+IsOnlyBreach source b at = (c : LexBreach) (there : Position) → HasBreach source c there → (c ≡ b) × (there ≡ at)
+
+-- where a source is refused, this holds of its breach and position
+abbrev pub IfRefused : {T : Type 0} → Result T LexError → (LexBreach → Position → Type 0) → Type 0
+IfRefused (Ok tokens) P = Unit {0}
+IfRefused (Err (error.Refused b at)) P = P b at
+IfRefused (Err error.OutOfMemory) P = Unit {0}

@@ -1,48 +1,31 @@
 -- What the code computes of the first piece of a list of bytes. No public clause cites this: `Pieces` and `Breaches` say what pieces and breaches are.
-use Rattle.std.specs.Prelude.{ℕ, ◌+◌, Bool, true, false, ◌||◌, ◌&&◌, ◌==◌, nat_eq, if◌then◌else◌, List, [], ◌∷◌, ◌++◌, Option, Some, None, Result, Ok, Err, codes, take, drop, length}
+use Rattle.std.specs.Prelude.{ℕ, ◌+◌, Bool, true, false, ◌||◌, ◌&&◌, ◌==◌, nat_eq, if◌then◌else◌, List, [], ◌∷◌, Option, Some, None, Result, Ok, Err, codes, drop, length}
 use Rattle.std.specs.Option.{option_map}
 use Rattle.std.specs.List.{list_any, take_while, starts_with}
 use Rattle.ooo_lexer.specs.declared.bytes.Class.TheVariants as class
-use Rattle.ooo_lexer.specs.declared.error.LexError.{LexError}
-use Rattle.ooo_lexer.specs.declared.error.LexError.TheVariants as error
-use Rattle.ooo_lexer.specs.declared.flaw.Breach.{Breach}
-use Rattle.ooo_lexer.specs.declared.flaw.Breach.TheVariants as breach
+use Rattle.ooo_lexer.specs.declared.breach.LexBreach.{LexBreach}
+use Rattle.ooo_lexer.specs.declared.breach.LexBreach.TheVariants as breach
 use Rattle.ooo_lexer.specs.declared.flaw.Flaw.{Flaw}
 use Rattle.ooo_lexer.specs.declared.heads.Head.{Head}
 use Rattle.ooo_lexer.specs.declared.heads.PieceKind.{PieceKind}
 use Rattle.ooo_lexer.specs.declared.heads.PieceKind.TheVariants as piece
 use Rattle.ooo_lexer.specs.declared.numbers.Number.{Number}
-use Rattle.ooo_lexer.specs.declared.position.Position.{Position}
 use Rattle.ooo_lexer.specs.declared.token.TokenKind.TheVariants as kind
 use Rattle.ooo_lexer.specs.Bytes.{is_space, is_digit, begins_word, is_text_byte, is_escape}
 use Rattle.ooo_lexer.specs.Forms.{headers}
 use Rattle.ooo_lexer.specs.Numerals.{number_of}
-use Rattle.ooo_lexer.specs.Places.{position_after}
 use Rattle.ooo_lexer.specs.Runs.{has, after_run, begins_with, is_nothing}
 
-abbrev pub flaw : Breach → ℕ → Flaw
+abbrev pub flaw : LexBreach → ℕ → Flaw
 flaw b n = record { breach = b; before = n }
 
 abbrev pub head : PieceKind → ℕ → Head
 head k n = record { kind = k; length = n }
 
--- the error of a breach at a place
-abbrev pub error_of : Breach → Position → LexError
-error_of breach.BadByte p = error.BadByte p
-error_of breach.NumberTooWide p = error.NumberTooWide p
-error_of breach.TextNotClosed p = error.TextNotClosed p
-error_of breach.CommentNotClosed p = error.CommentNotClosed p
-error_of breach.Directive p = error.Directive p
-error_of breach.BadNumber p = error.BadNumber p
-
--- the error of a flaw of what stands after these bytes
-abbrev pub error_at : List ℕ → List ℕ → Flaw → LexError
-error_at before rest f = error_of f.breach (position_after (before ++ take f.before rest))
-
 -- ---- numbers
 
 -- a number, by the outcome for its word bytes
-abbrev pub head_of_number : ℕ → Result Number Breach → Result Head Flaw
+abbrev pub head_of_number : ℕ → Result Number LexBreach → Result Head Flaw
 head_of_number n (Ok number) = Ok (head (piece.Token kind.Number) n)
 head_of_number n (Err b) = Err (flaw b 0)
 

@@ -1,11 +1,12 @@
 -- What holds of every source.
 use Rattle.std.specs.Prelude.{◌≡◌, ℕ, ◌⊎◌, List, All, map}
-use Rattle.ooo_lexer.specs.declared.error.LexError.{LexError}
+use Rattle.ooo_lexer.specs.declared.breach.LexBreach.{LexBreach}
 use Rattle.ooo_lexer.specs.declared.numbers.Number.{Number}
+use Rattle.ooo_lexer.specs.declared.position.Position.{Position}
 use Rattle.ooo_lexer.specs.declared.token.Token.{Token}
 use Rattle.ooo_lexer.specs.Numbers.{IsNumberOf}
 use Rattle.ooo_lexer.specs.Pieces.{Piece, Cuts, lexemes}
-use Rattle.ooo_lexer.specs.Breaches.{HasBreach}
+use Rattle.ooo_lexer.specs.Breaches.{HasBreach, IsOnlyBreach}
 use Rattle.ooo_lexer.specs.Spans.{AreTokensOf, IsWithin, AreInOrder, lexeme_at}
 
 -- two cuttings of one source are the same
@@ -18,15 +19,15 @@ HasOneTokenList = (source : List ℕ) (tokens others : List Token) → AreTokens
 
 -- a source has one breach at most
 abbrev pub HasOneBreach : Type 0
-HasOneBreach = (source : List ℕ) (e f : LexError) → HasBreach source e → HasBreach source f → e ≡ f
+HasOneBreach = (source : List ℕ) (b : LexBreach) (at : Position) → HasBreach source b at → IsOnlyBreach source b at
 
 -- no source with a breach is cut
 abbrev pub HasNoCutting : Type 0
-HasNoCutting = (source : List ℕ) (e : LexError) (pieces : List Piece) → HasBreach source e → Cuts source pieces → ⊥
+HasNoCutting = (source : List ℕ) (b : LexBreach) (at : Position) (pieces : List Piece) → HasBreach source b at → Cuts source pieces → ⊥
 
 -- a source is cut, or it has a breach
 abbrev pub IsCutOrBroken : Type 0
-IsCutOrBroken = (source : List ℕ) → ((pieces : List Piece) × Cuts source pieces) ⊎ ((e : LexError) × HasBreach source e)
+IsCutOrBroken = (source : List ℕ) → ((pieces : List Piece) × Cuts source pieces) ⊎ ((b : LexBreach) × ((at : Position) × HasBreach source b at))
 
 -- a number has one kind and one value
 abbrev pub IsOneNumber : Type 0

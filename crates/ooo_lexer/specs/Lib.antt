@@ -3,7 +3,7 @@ pub mod Texts
 pub mod Numbers
 pub mod Forms
 pub mod Pieces
-pub mod Places
+pub mod Positions
 pub mod Breaches
 pub mod Spans
 pub mod Runs

@@ -4,8 +4,8 @@ use Rattle.std.specs.List.{list_any, take_while, starts_with}
 use Rattle.std.specs.Str.{bytes_eq}
 use Rattle.ooo_lexer.specs.declared.bytes.Class.{Class}
 use Rattle.ooo_lexer.specs.declared.bytes.Class.TheVariants as class
-use Rattle.ooo_lexer.specs.declared.flaw.Breach.{Breach}
-use Rattle.ooo_lexer.specs.declared.flaw.Breach.TheVariants as breach
+use Rattle.ooo_lexer.specs.declared.breach.LexBreach.{LexBreach}
+use Rattle.ooo_lexer.specs.declared.breach.LexBreach.TheVariants as breach
 use Rattle.ooo_lexer.specs.declared.numbers.Base.{Base}
 use Rattle.ooo_lexer.specs.declared.numbers.Base.TheVariants as base
 use Rattle.ooo_lexer.specs.declared.numbers.Suffix.{Suffix}
@@ -42,19 +42,19 @@ abbrev pub fitting : ℕ → Option ℕ
 fitting value = if nat_le value 18446744073709551615 then Some value else None
 
 -- the number of a value and a kind, if there is a kind
-abbrev pub sized : ℕ → Option NumberKind → Result Number Breach
+abbrev pub sized : ℕ → Option NumberKind → Result Number LexBreach
 sized value None = Err breach.NumberTooWide
 sized value (Some kind) = Ok (record { kind = kind; value = value })
 
 -- the number of these digits and this suffix, if there is a suffix
-abbrev pub number_with : Base → List ℕ → Option Suffix → Result Number Breach
+abbrev pub number_with : Base → List ℕ → Option Suffix → Result Number LexBreach
 number_with b ds None = Err breach.BadNumber
 number_with b ds (Some s) = sized (value_of b ds) (first_holding (kinds_of b s) (value_of b ds))
 
 -- a number, by what follows its prefix
-abbrev pub number_after : Base → List ℕ → Result Number Breach
+abbrev pub number_after : Base → List ℕ → Result Number LexBreach
 number_after b bs = if are_digits b (take_while (has (class_of b)) bs) then number_with b (take_while (has (class_of b)) bs) (suffix_of (after_run (class_of b) bs)) else Err breach.BadNumber
 
 -- the number that bytes are, or why they are none
-unfoldable pub number_of : List ℕ → Result Number Breach
+unfoldable pub number_of : List ℕ → Result Number LexBreach
 number_of bs = if has_hex_prefix bs then number_after base.Hexadecimal (drop 2 bs) else number_after base.Decimal bs

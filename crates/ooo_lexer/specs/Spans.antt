@@ -2,13 +2,13 @@
 use Rattle.std.specs.Prelude.{◌≡◌, ℕ, ◌<◌, ◌≤◌, List, [], AllPairs, slice_range, length}
 use Rattle.ooo_lexer.specs.declared.token.Token.{Token}
 use Rattle.ooo_lexer.specs.Pieces.{Lexeme, Piece, Cuts}
-use Rattle.ooo_lexer.specs.Places.{placed}
+use Rattle.ooo_lexer.specs.Positions.{tokens_after}
 
 -- the source is cut into pieces, and these are their tokens
 pub record AreTokensOf (source : List ℕ) (tokens : List Token) : Type 0 where
   pub pieces : List Piece
   pub cut : Cuts source pieces
-  pub are : tokens ≡ placed [] pieces
+  pub are : tokens ≡ tokens_after [] pieces
 
 -- the span holds a byte and ends within the source
 abbrev pub IsWithin : List ℕ → Token → Type 0

@@ -3,8 +3,9 @@ ghost use Rattle.ooo_lexer.specs.Heads.{head, head_of_number, marked_head, head_
 ghost use Rattle.ooo_lexer.specs.declared.heads.PieceKind.TheVariants as piece;
 ghost use Rattle.ooo_lexer.specs.Numerals.{number_of};
 
+use crate::breach::LexBreach;
 use crate::bytes::{Class, begins_word, is_digit, is_space};
-use crate::flaw::{Breach, Flaw};
+use crate::flaw::Flaw;
 use crate::marks::{directive_head, mark_head};
 use crate::numbers::number_of;
 use crate::texts::text_head;
@@ -32,7 +33,7 @@ pub(crate) fn head_of(bytes: &[u8]) -> Result<Head, Flaw>
     ensures { result ≡ head_of bytes.now }
 {
     let [first, rest @ ..] = bytes else {
-        return Err(Flaw::first(Breach::BadByte));
+        return Err(Flaw::first(LexBreach::BadByte));
     };
     if is_space(*first) {
         return Ok(Head {

@@ -2,8 +2,9 @@ ghost use Rattle.std.specs.Prelude.{◌≡◌, ◌≤◌, ◌∷◌, length, IfS
 ghost use Rattle.ooo_lexer.specs.Forms.{headers};
 ghost use Rattle.ooo_lexer.specs.Heads.{head, flaw, header_length, is_end, is_named, is_include, directive_head, close_at, block_head, begins_triple, is_pair, takes_equals, may_be_doubled, stands_alone, is_lone_sign, sign_head, mark_head};
 
+use crate::breach::LexBreach;
 use crate::bytes::Class;
-use crate::flaw::{Breach, Flaw};
+use crate::flaw::Flaw;
 use crate::heads::{Head, PieceKind, token_head};
 use crate::token::TokenKind;
 
@@ -19,7 +20,7 @@ pub(crate) fn directive_head(bytes: &[u8]) -> Result<Head, Flaw>
             length: line.len() + 1,
         })
     } else {
-        Err(Flaw::first(Breach::Directive))
+        Err(Flaw::first(LexBreach::Directive))
     }
 }
 
@@ -94,7 +95,7 @@ fn block_head(inside: &[u8]) -> Result<Head, Flaw>
     ensures { result ≡ block_head (close_at inside.now) }
 {
     match close_at(inside) {
-        None => Err(Flaw::first(Breach::CommentNotClosed)),
+        None => Err(Flaw::first(LexBreach::CommentNotClosed)),
         Some(length) => Ok(Head {
             kind: PieceKind::Comment,
             length: length + 4,
@@ -126,7 +127,7 @@ fn sign_head(first: u8, rest: &[u8]) -> Result<Head, Flaw>
         [b'>', b'=', ..] if first == b'>' => Ok(token_head(TokenKind::Sign, 3)),
         [second, ..] if is_pair(first, *second) => Ok(token_head(TokenKind::Sign, 2)),
         _ if is_lone_sign(first) => Ok(token_head(TokenKind::Sign, 1)),
-        _ => Err(Flaw::first(Breach::BadByte)),
+        _ => Err(Flaw::first(LexBreach::BadByte)),
     }
 }
 

@@ -5,8 +5,8 @@ ghost use Rattle.ooo_lexer.specs.Bytes.{is_hex_digit};
 ghost use Rattle.ooo_lexer.specs.Numbers.{radix, digit_value, value_of, kinds_of, greatest_of, first_holding, IsNumberOf};
 ghost use Rattle.ooo_lexer.specs.Numerals.{has_hex_prefix, class_of, are_digits, is_ending, suffix_of, fitting, sized, number_with, number_after, number_of};
 
+use crate::breach::LexBreach;
 use crate::bytes::{Class, is_digit};
-use crate::flaw::Breach;
 
 /// The kind of a number (ISO/IEC 14882, [basic.fundamental]).
 #[derive(Clone, Copy, Debug, PartialEq, Eq)]
@@ -60,7 +60,7 @@ pub fn read_number(bytes: &[u8]) -> Option<Number>
 
 /// The number that bytes are, or why they are none.
 #[tactic(auto, unfolding(crate::specs::Numerals::number_of))]
-pub(crate) fn number_of(bytes: &[u8]) -> Result<Number, Breach>
+pub(crate) fn number_of(bytes: &[u8]) -> Result<Number, LexBreach>
     ensures { result ≡ number_of bytes.now }
 {
     match bytes {
@@ -70,28 +70,28 @@ pub(crate) fn number_of(bytes: &[u8]) -> Result<Number, Breach>
 }
 
 // A number, by what follows its prefix.
-fn number_after(base: Base, bytes: &[u8]) -> Result<Number, Breach>
+fn number_after(base: Base, bytes: &[u8]) -> Result<Number, LexBreach>
     ensures { result ≡ number_after base bytes.now }
 {
     let (digits, ending) = base.class().split(bytes);
     if !base.are_digits(digits) {
-        return Err(Breach::BadNumber);
+        return Err(LexBreach::BadNumber);
     }
     let Some(suffix) = suffix_of(ending) else {
-        return Err(Breach::BadNumber);
+        return Err(LexBreach::BadNumber);
     };
     number_with(base, digits, suffix)
 }
 
 // The number of these digits and this suffix.
-fn number_with(base: Base, digits: &[u8], suffix: Suffix) -> Result<Number, Breach>
+fn number_with(base: Base, digits: &[u8], suffix: Suffix) -> Result<Number, LexBreach>
     ensures { result ≡ number_with base digits.now (Some suffix) }
 {
     let Some(value) = base.value_of(digits) else {
-        return Err(Breach::NumberTooWide);
+        return Err(LexBreach::NumberTooWide);
     };
     match first_holding(kinds_of(base, suffix), value) {
-        None => Err(Breach::NumberTooWide),
+        None => Err(LexBreach::NumberTooWide),
         Some(kind) => Ok(Number { kind, value }),
     }
 }

@@ -1,4 +1,4 @@
-/// A place in a source, as messages name it.
+/// A line and a column in a source, as refusals write them.
 #[derive(Clone, Copy, Debug, PartialEq, Eq)]
 pub struct Position {
     /// Its line, from 1.

@@ -1,31 +1,32 @@
-ghost use Rattle.std.specs.Prelude.{◌≡◌, ◌≢◌, ◌≤◌, ◌<◌, ◌+◌, ◌++◌, ◌^◌, List, [], All, map, take, length, OnOk, IfOk, IfErr};
+ghost use Rattle.std.specs.Prelude.{◌≡◌, ◌≤◌, ◌<◌, ◌+◌, ◌++◌, ◌^◌, List, [], All, map, take, length, OnOk, IfOk};
 ghost use Rattle.ooo_lexer.specs.Pieces.{Piece, Cuts, lexemes};
-ghost use Rattle.ooo_lexer.specs.Places.{placed};
+ghost use Rattle.ooo_lexer.specs.Positions.{tokens_after};
 ghost use Rattle.ooo_lexer.specs.Spans.{AreTokensOf, IsWithin, AreInOrder, lexeme_at};
-ghost use Rattle.ooo_lexer.specs.Breaches.{HasBreach};
-ghost use Rattle.ooo_lexer.specs.declared.error.LexError.{LexError as Error};
-ghost use Rattle.ooo_lexer.specs.Heads.{error_of};
-ghost use Rattle.ooo_lexer.specs.Steps.{tokens_of, place_after, position_of};
+ghost use Rattle.ooo_lexer.specs.Breaches.{HasBreach, IsOnlyBreach, IfRefused};
+ghost use Rattle.ooo_lexer.specs.declared.breach.LexBreach.{LexBreach as LexBreachSpec};
+ghost use Rattle.ooo_lexer.specs.declared.position.Position.{Position as PositionSpec};
+ghost use Rattle.ooo_lexer.specs.Steps.{tokens_of, cursor_after, position_of};
 
+use crate::cursor::Cursor;
 use crate::error::LexError;
 use crate::flaw::Flaw;
 use crate::heads::{Head, PieceKind, head_of};
-use crate::place::Place;
+use crate::position::Position;
 use crate::token::Token;
 use std::alloc::{AllocError, Global};
 
 // Keeps the token of a piece, if it is one.
-fn keep(tokens: &mut Vec<Token>, head: Head, place: Place) -> Result<(), AllocError>
-    requires { place.start + head.length < 2 ^ 32 }
-    ensures { OnOk result (tokens.new.items ≡ tokens.old.items ++ tokens_of head.kind head.length place) }
+fn keep(tokens: &mut Vec<Token>, head: Head, cursor: Cursor) -> Result<(), AllocError>
+    requires { cursor.start + head.length < 2 ^ 32 }
+    ensures { OnOk result (tokens.new.items ≡ tokens.old.items ++ tokens_of head.kind head.length cursor) }
 {
     if let PieceKind::Token(kind) = head.kind {
         tokens.push(Token {
             kind,
-            start: place.start,
-            end: place.start + head.length as u32,
-            line: place.line,
-            column: place.column,
+            start: cursor.start,
+            end: cursor.start + head.length as u32,
+            line: cursor.line,
+            column: cursor.column,
         })?;
     }
     Ok(())
@@ -38,13 +39,13 @@ fn keep(tokens: &mut Vec<Token>, head: Head, place: Place) -> Result<(), AllocEr
 ///
 /// # Errors
 ///
-/// The leftmost breach of the source, with its place, or `OutOfMemory` where memory ran out, whatever the source.
+/// The leftmost breach of the source, with its position, or `OutOfMemory` where memory ran out, whatever the source.
 pub fn lex(alloc: Global, source: &[u8]) -> Result<Vec<Token>, LexError>
     requires { length source.now ≤ 1048576 }
 
     // The source is cut into pieces, these are their tokens, and any cutting gives the same.
     ensures tokens { IfOk result (λ v. AreTokensOf source.now v.items) }
-    ensures only { IfOk result (λ v. (pieces : List Piece) → Cuts source.now pieces → v.items ≡ placed [] pieces) }
+    ensures only { IfOk result (λ v. (pieces : List Piece) → Cuts source.now pieces → v.items ≡ tokens_after [] pieces) }
 
     // What the tokens' spans are.
     ensures within { IfOk result (λ v. All (IsWithin source.now) v.items) }
@@ -52,37 +53,40 @@ pub fn lex(alloc: Global, source: &[u8]) -> Result<Vec<Token>, LexError>
     ensures lexemes { IfOk result (λ v. (pieces : List Piece) → Cuts source.now pieces
         → map (lexeme_at source.now) v.items ≡ lexemes pieces) }
 
-    // A source that is refused has this breach at this place, no other breach, and no cutting. One that is not refused
-    // has no breach.
-    ensures breach { IfErr result (λ e. e ≢ LexError.OutOfMemory → HasBreach source.now e) }
-    ensures one { IfErr result (λ e. e ≢ LexError.OutOfMemory → (other : Error) → HasBreach source.now other → other ≡ e) }
-    ensures uncut { IfErr result (λ e. e ≢ LexError.OutOfMemory → (pieces : List Piece) → ¬ Cuts source.now pieces) }
-    ensures unbroken { IfOk result (λ _. (e : Error) → ¬ HasBreach source.now e) }
+    // A source that is refused has this breach at this position, no other breach, and no cutting. One that is cut has
+    // no breach.
+    ensures breach { IfRefused result (HasBreach source.now) }
+    ensures one { IfRefused result (IsOnlyBreach source.now) }
+    ensures uncut { IfRefused result (λ _ _. (pieces : List Piece) → ¬ Cuts source.now pieces) }
+    ensures unbroken { IfOk result (λ _. (b : LexBreachSpec) (at : PositionSpec) → ¬ HasBreach source.now b at) }
 {
     let mut tokens = Vec::new(alloc);
-    let mut place = Place::FIRST;
+    let mut cursor = Cursor::FIRST;
     let mut rest = source;
     'pieces: while !rest.is_empty() {
         let head = match head_of(rest) {
             Ok(head) => head,
-            Err(flaw) => return Err(flaw_error(place, rest, flaw)),
+            Err(flaw) => {
+                let position = flaw_position(cursor, rest, flaw);
+                return Err(LexError::Refused(flaw.breach, position));
+            }
         };
-        keep(&mut tokens, head, place)?;
+        keep(&mut tokens, head, cursor)?;
         let (piece, after) = rest.split_at(head.length);
-        place = place.after(piece);
+        cursor = cursor.after(piece);
         rest = after;
     }
     Ok(tokens)
 }
 
-// The error of a flaw of what stands at a place.
-fn flaw_error(place: Place, rest: &[u8], flaw: Flaw) -> LexError
+// The position of a flaw of what stands at a cursor.
+fn flaw_position(cursor: Cursor, rest: &[u8], flaw: Flaw) -> Position
     requires within { flaw.before ≤ length rest.now }
-    requires start_fits { place.start + length rest.now < 2 ^ 32 }
-    requires line_fits { place.line + length rest.now < 2 ^ 32 }
-    requires column_fits { place.column + length rest.now < 2 ^ 32 }
-    ensures { result ≡ error_of flaw.breach (position_of (place_after place (take flaw.before rest.now))) }
+    requires start_fits { cursor.start + length rest.now < 2 ^ 32 }
+    requires line_fits { cursor.line + length rest.now < 2 ^ 32 }
+    requires column_fits { cursor.column + length rest.now < 2 ^ 32 }
+    ensures { result ≡ position_of (cursor_after cursor (take flaw.before rest.now)) }
 {
     let (before, _) = rest.split_at(flaw.before);
-    flaw.breach.at(place.after(before).position())
+    cursor.after(before).position()
 }

@@ -1,8 +1,8 @@
-//! Sources and their tokens, by hand; places; and the calls on single tokens.
+//! Sources and their tokens, by hand; positions; and the calls on single tokens.
 
 mod table;
 
-use crate::{LexError, Number, Position, Token, TokenKind, lex, read_number, unescape};
+use crate::{LexBreach, LexError, Number, Position, Token, TokenKind, lex, read_number, unescape};
 use std::alloc::{AllocError, Global};
 use std::process::Abort;
 use std::test::Fail;
@@ -10,7 +10,7 @@ use std::test::Fail;
 /// A source, and what `lex` gives as [`shown`] writes it.
 pub type Case = (&'static [u8], &'static [u8]);
 
-// Writes each token as the letter of its kind, a colon, its bytes and a bar; or the error's name and its place.
+// Writes each token as the letter of its kind, a colon, its bytes and a bar; or the breach's name and position.
 fn shown(rt: &impl Abort, alloc: Global, source: &[u8]) -> Result<Vec<u8>, AllocError> {
     assert!(rt; source.len() <= 1_048_576);
     match lex(alloc, source) {
@@ -43,18 +43,12 @@ fn show_tokens(
 }
 
 fn show_error(alloc: Global, error: LexError) -> Result<Vec<u8>, AllocError> {
-    let (name, place) = match error {
-        LexError::BadByte(place) => ("BadByte", place),
-        LexError::NumberTooWide(place) => ("NumberTooWide", place),
-        LexError::TextNotClosed(place) => ("TextNotClosed", place),
-        LexError::CommentNotClosed(place) => ("CommentNotClosed", place),
-        LexError::Directive(place) => ("Directive", place),
-        LexError::BadNumber(place) => ("BadNumber", place),
-        LexError::OutOfMemory => return Err(AllocError),
+    let LexError::Refused(breach, position) = error else {
+        return Err(AllocError);
     };
-    let line = place.line;
-    let column = place.column;
-    let text = format!(in alloc; "{name} {line}:{column}")?;
+    let line = position.line;
+    let column = position.column;
+    let text = format!(in alloc; "{breach} {line}:{column}")?;
     Vec::from_slice(alloc, text.as_bytes())
 }
 
@@ -157,7 +151,9 @@ fn cuts_a_source_of_one_mebibyte(rt: HostRuntime) -> Result<(), Fail> {
     assert!(rt; tokens.is_empty());
     let digits = vec![in rt.alloc(); b'1'; 1_048_576]?;
     assert!(rt; digits.len() <= 1_048_576);
-    let place = Position { line: 1, column: 1 };
-    assert!(rt; lex(rt.alloc(), &digits) == Err(LexError::NumberTooWide(place)));
+    let position = Position { line: 1, column: 1 };
+    assert!(rt;
+        lex(rt.alloc(), &digits) == Err(LexError::Refused(LexBreach::NumberTooWide, position))
+    );
     Ok(())
 }

@@ -3,7 +3,8 @@ ghost use Rattle.ooo_lexer.specs.Bytes.{is_text_byte, is_escape};
 ghost use Rattle.ooo_lexer.specs.Texts.{escaped, unescaped};
 ghost use Rattle.ooo_lexer.specs.Heads.{text_head, first_part, parts_length};
 
-use crate::flaw::{Breach, Flaw};
+use crate::breach::LexBreach;
+use crate::flaw::Flaw;
 use crate::heads::{Head, token_head};
 use crate::token::TokenKind;
 use std::alloc::AllocError;
@@ -15,14 +16,14 @@ pub(crate) fn text_head(bytes: &[u8]) -> Result<Head, Flaw>
     let length = parts_length(true, bytes);
     match &bytes[length..] {
         [b'"', ..] => {}
-        _ => return Err(Flaw::first(Breach::TextNotClosed)),
+        _ => return Err(Flaw::first(LexBreach::TextNotClosed)),
     }
     let clean = parts_length(false, bytes);
     if clean == length {
         Ok(token_head(TokenKind::Text, length + 2))
     } else {
         Err(Flaw {
-            breach: Breach::BadByte,
+            breach: LexBreach::BadByte,
             before: clean + 1,
         })
     }

@@ -5,7 +5,7 @@ ghost use Rattle.std.specs.Prelude.{◌≡◌, ◌≤◌, length, slice_range};
 pub enum TokenKind {
     /// A letter or `_`, and then letters, digits and `_`.
     Word,
-    /// `0`, or decimal digits without a leading zero.
+    /// Decimal digits without a leading zero, or `0x` and hexadecimal digits, and then a suffix or none.
     Number,
     /// Bytes between two double quotes, with the quotes.
     Text,
@@ -13,14 +13,14 @@ pub enum TokenKind {
     Sign,
 }
 
-/// A token of a source, by its place.
+/// A token of a source, by its span.
 #[derive(Clone, Copy, Debug, PartialEq, Eq)]
 pub struct Token {
     /// What it is.
     pub kind: TokenKind,
-    /// The place of its first byte in the source, from 0.
+    /// How many bytes of the source stand before it.
     pub start: u32,
-    /// The place after its last byte.
+    /// How many bytes of the source stand before what follows it.
     pub end: u32,
     /// Its line, from 1.
     pub line: u32,

@@ -1,14 +1,5 @@
-pub mod MarkLists
-pub mod Sequences
-pub mod Amounts
-pub mod Clear
-pub mod Errors
-pub mod Refusals
-pub mod Models
-pub mod NameLists
-pub mod Numbers
-pub mod Rules
-pub mod OneAnswer
 pub mod Bytes
 pub mod Writing
-pub mod Requests
+pub mod Words
+pub mod Readings
+pub mod Answers

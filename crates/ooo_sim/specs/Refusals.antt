@@ -1,19 +1,36 @@
--- The line that refuses a text.
-use Rattle.std.specs.Prelude.{ℕ, List, [], ◌++◌, codes, decimal}
-use Rattle.ooo_lexer.specs.declared.error.LexError.{LexError}
-use Rattle.ooo_lexer.specs.declared.error.LexError.TheVariants as error
+-- Why a text is refused, layer by layer, and the line that says so.
+use Rattle.std.specs.Prelude.{◌≡◌, ℕ, List, [], ◌++◌, codes, decimal}
+use Rattle.ooo_lexer.specs.Breaches.{HasBreach, name_of}
+use Rattle.ooo_lexer.specs.Pieces.{Piece, Cuts, lexemes}
 use Rattle.ooo_lexer.specs.declared.position.Position.{Position}
+use Rattle.ooo_threads.specs.declared.model.ThreadModel.{ThreadModel}
+use Rattle.ooo_threads.specs.Ready.{IsModelOf}
+use Rattle.ooo_sim.specs.declared.front.Refusal.{Refusal}
+use Rattle.ooo_sim.specs.declared.front.Refusal.TheVariants as refusal
 
--- the name of what is wrong, and its line and column
-abbrev pub refused_at : List ℕ → Position → List ℕ
-refused_at name p = codes "refused lexer " ++ name ++ codes " " ++ decimal p.line ++ codes ":" ++ decimal p.column ++ codes "\n"
+-- the text is cut into these pieces, whose lexemes are this model's
+pub record IsTextOf (text : List ℕ) (m : ThreadModel) : Type 0 where
+  pub pieces : List Piece
+  pub cut : Cuts text pieces
+  pub model : IsModelOf (lexemes pieces) m
 
--- the line for a breach that the lexer names; want of memory is none, and has no line
-abbrev pub lexer_line : LexError → List ℕ
-lexer_line (error.BadByte p) = refused_at (codes "BadByte") p
-lexer_line (error.NumberTooWide p) = refused_at (codes "NumberTooWide") p
-lexer_line (error.TextNotClosed p) = refused_at (codes "TextNotClosed") p
-lexer_line (error.CommentNotClosed p) = refused_at (codes "CommentNotClosed") p
-lexer_line (error.Directive p) = refused_at (codes "Directive") p
-lexer_line (error.BadNumber p) = refused_at (codes "BadNumber") p
-lexer_line error.OutOfMemory = []
+-- the text is cut, and is no model's
+pub record IsNotBuilt (text : List ℕ) : Type 0 where
+  pub pieces : List Piece
+  pub cut : Cuts text pieces
+  pub none : (m : ThreadModel) → IsTextOf text m → ⊥
+
+-- what each layer refuses: the lexer its breaches, the form that is built so far all that it doesn't read
+abbrev pub IsRefused : List ℕ → Refusal → Type 0
+IsRefused text (refusal.Lexer breach at) = HasBreach text breach at
+IsRefused text refusal.NotBuilt = IsNotBuilt text
+
+-- a layer's line: its name, the breach's name, line and column
+abbrev pub layer_line : List ℕ → List ℕ → Position → List ℕ
+layer_line layer name at =
+    codes "refused " ++ layer ++ codes " " ++ name ++ codes " " ++ decimal at.line ++ codes ":" ++ decimal at.column ++ codes "\n"
+
+-- the line of a refusal
+abbrev pub refusal_line : Refusal → List ℕ
+refusal_line (refusal.Lexer breach at) = layer_line (codes "lexer") (name_of breach) at
+refusal_line refusal.NotBuilt = codes "refused form NotBuilt\n"

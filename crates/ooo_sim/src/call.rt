@@ -1,17 +1,23 @@
-ghost use Rattle.std.specs.Prelude.{◌≡◌, ◌≢◌, ◌≤◌, ℕ, List, Option, map, take, drop, string_bytes, Some, IfOk, IfErr, IfSome, IsErrOf, IsSome, IsTrue, ◌↔◌};
-ghost use Rattle.std.specs.Io.KnownBytes.{Keeps};
+ghost use Rattle.std.specs.Prelude.{◌≡◌, ◌≢◌, ◌+◌, [], Ok, Err, IfOk, IfSome, IsErrOf, IsSome};
 ghost use Rattle.ooo_outside.specs.Causes.{Rose};
-ghost use Rattle.ooo_sim.specs.Replies.{IsAnswer, answer_of};
-ghost use Rattle.ooo_time.specs.declared.time.Time.{Time as Stop};
-ghost use Rattle.ooo_sim.specs.Asking.{request, PlainRun, Refusal, StopsInTime};
-ghost use Rattle.ooo_sim.specs.Calls.{IsRefusal, IsFailure, Wrote};
+ghost use Rattle.ooo_threads.specs.Ready.{StopsInTime};
+ghost use Rattle.ooo_words.specs.Refused.{refusal_line};
+ghost use Rattle.ooo_sim.specs.Calls.{Wrote, Took, IsReplyFrom};
+ghost use Rattle.ooo_sim.specs.Pumps.{GaveFirst, AppendsPrefix};
+ghost use Rattle.ooo_sim.specs.Replies.{IsReplyTo, reply};
+ghost use Rattle.ooo_sim.specs.Requests.{words_of, request_of, bytes_wanted};
+ghost use Rattle.ooo_sim.specs.Statuses.{IsFailure};
+ghost use Rattle.ooo_sim.specs.declared.request.Request.TheVariants as request;
 
-use crate::asked::{Asked, read_words};
-use crate::pump::{ReadFault, read_text, write_text};
+use crate::law::one_reply;
+use crate::pump::{ReadError, read_text, write_text};
 use crate::reply::{MOST_BYTES, Reply, reply_to};
+use crate::request::{Request, read_request};
+use crate::status::Status;
 use ooo_outside::{Failed, Gate, Sink, Source};
 use ooo_time::Time;
-use std::alloc::Global;
+use ooo_words::{WordsError, refusal};
+use std::alloc::{AllocError, Global};
 use std::sync::Wait;
 use std::thread::Threads;
 
@@ -20,40 +26,32 @@ use std::thread::Threads;
 /// The command `plain` reads a model text from the source, runs it by the sequential scheduler up to its stop time, or
 /// to that of `--stop`, and writes its report to the sink. Words that are refused give one line, and so do those that
 /// ask for what isn't built: the other commands, and the limits of `plain`.
-///
-/// The status is 0 where the report was written, 2 for refused words, 3 for a text that is no model, 8 for one that is
-/// too long, 4 where the source failed, 5 where the sink failed, and 6 where memory was wanting.
 pub fn alone<So: Source, Si: Sink>(
     alloc: Global,
     words: &[String],
     source: &mut So,
     sink: &mut Si,
-) -> Option<u8>
+) -> Option<Status>
     ensures answers { IsSome result }
-
-    // Words that ask for a run by the sequential scheduler, where the source tells its bytes: what is written, and what
-    // was read of the source.
-    ensures plain { (stop : Option Stop) → request (map string_bytes words.now) ≡ PlainRun stop → IfSome (So.rest source.old) (λ bytes.
-        IfSome result (λ status. Wrote (IsAnswer stop (take 1048577 bytes)) status (Si.held sink.old) (Si.held sink.new))) }
-    ensures taken { (stop : Option Stop) → request (map string_bytes words.now) ≡ PlainRun stop → IfSome (So.rest source.old) (λ bytes.
-        IfSome result (λ status. status ≢ 4 → status ≢ 6 → So.rest source.new ≡ Some (drop 1048577 bytes))) }
-
-    // Words that are refused with a line.
-    ensures refused { (line : List ℕ) → request (map string_bytes words.now) ≡ Refusal line → IfSome result (λ status. Wrote (IsRefusal line) status (Si.held sink.old) (Si.held sink.new)) }
-    ensures untouched { (line : List ℕ) → request (map string_bytes words.now) ≡ Refusal line → source.new ≡ source.old }
-
-    // The faults.
-    ensures read { result ≡ Some 4 → Rose (So.faults source.old) (So.faults source.new) }
-    ensures unwritten { result ≡ Some 4 → Keeps (Si.held sink.old) (Si.held sink.new) }
-    ensures write { result ≡ Some 5 → Rose (Si.faults sink.old) (Si.faults sink.new) }
+    ensures written { IfSome result (λ status.
+        Wrote (words_of words.now) (So.rest source.old) status (Si.held sink.old) (Si.held sink.new)) }
+    ensures taken { IfSome result (λ status.
+        Took So.rest (words_of words.now) status source.old source.new) }
+    ensures source_fault { IfSome result (λ status. status ≡ Status.SourceFailed →
+        Rose (So.faults source.old) (So.faults source.new) × (sink.new ≡ sink.old)) }
+    ensures sink_fault { IfSome result (λ status. status ≡ Status.SinkFailed →
+        Rose (Si.faults sink.old) (Si.faults sink.new)) }
 {
     match answer(alloc, words, source) {
-        Err(ReadFault::Failed) => Some(4),
-        Err(ReadFault::OutOfMemory) => Some(6),
-        Ok(reply) => match write_text(sink, &reply.text) {
-            Ok(()) => Some(reply.status),
-            Err(Failed) => Some(5),
-        },
+        Err(ReadError::Failed) => Some(Status::SourceFailed),
+        Err(ReadError::OutOfMemory) => Some(Status::OutOfMemory),
+        Ok(reply) => {
+            one_reply();
+            match write_text(sink, reply.text.as_slice()) {
+                Ok(()) => Some(reply.status),
+                Err(Failed) => Some(Status::SinkFailed),
+            }
+        }
     }
 }
 
@@ -66,22 +64,14 @@ pub fn simulate<So: Source, Si: Sink, G: Gate>(
     source: &mut So,
     sink: &mut Si,
     _gate: &G,
-) -> u8
-    // Words that ask for a run by the sequential scheduler, where the source tells its bytes: what is written, and what
-    // was read of the source.
-    ensures plain { (stop : Option Stop) → request (map string_bytes words.now) ≡ PlainRun stop → IfSome (So.rest source.old) (λ bytes.
-        Wrote (IsAnswer stop (take 1048577 bytes)) result (Si.held sink.old) (Si.held sink.new)) }
-    ensures taken { (stop : Option Stop) → request (map string_bytes words.now) ≡ PlainRun stop → IfSome (So.rest source.old) (λ bytes.
-        result ≢ 4 → result ≢ 6 → So.rest source.new ≡ Some (drop 1048577 bytes)) }
-
-    // Words that are refused with a line.
-    ensures refused { (line : List ℕ) → request (map string_bytes words.now) ≡ Refusal line → Wrote (IsRefusal line) result (Si.held sink.old) (Si.held sink.new) }
-    ensures untouched { (line : List ℕ) → request (map string_bytes words.now) ≡ Refusal line → source.new ≡ source.old }
-
-    // The faults.
-    ensures read { result ≡ 4 → Rose (So.faults source.old) (So.faults source.new) }
-    ensures unwritten { result ≡ 4 → Keeps (Si.held sink.old) (Si.held sink.new) }
-    ensures write { result ≡ 5 → Rose (Si.faults sink.old) (Si.faults sink.new) }
+) -> Status
+    ensures written {
+        Wrote (words_of words.now) (So.rest source.old) result (Si.held sink.old) (Si.held sink.new) }
+    ensures taken { Took So.rest (words_of words.now) result source.old source.new }
+    ensures source_fault { result ≡ Status.SourceFailed →
+        Rose (So.faults source.old) (So.faults source.new) × (sink.new ≡ sink.old) }
+    ensures sink_fault { result ≡ Status.SinkFailed →
+        Rose (Si.faults sink.old) (Si.faults sink.new) }
 {
     match alone(alloc, words, source, sink) {
         Some(status) => status,
@@ -90,29 +80,49 @@ pub fn simulate<So: Source, Si: Sink, G: Gate>(
 }
 
 // The reply to the words, and to the text that a source gives.
-fn answer<So: Source>(alloc: Global, words: &[String], source: &mut So) -> Result<Reply, ReadFault>
-    ensures plain { (stop : Option Stop) → request (map string_bytes words.now) ≡ PlainRun stop → IfOk result (λ reply. IfSome (So.rest source.old) (λ bytes. IsAnswer stop (take 1048577 bytes) (answer_of reply))) }
-    ensures taken { (stop : Option Stop) → request (map string_bytes words.now) ≡ PlainRun stop → IfOk result (λ _. IfSome (So.rest source.old) (λ bytes. So.rest source.new ≡ Some (drop 1048577 bytes))) }
-    ensures refused { (line : List ℕ) → request (map string_bytes words.now) ≡ Refusal line → IfOk result (λ reply. IsRefusal line (answer_of reply)) }
-    ensures untouched { (line : List ℕ) → request (map string_bytes words.now) ≡ Refusal line → source.new ≡ source.old }
-    ensures own { IfOk result (λ reply. IsFailure reply.status → ⊥) }
-    ensures failed { IsErrOf result ReadFault.Failed → Rose (So.faults source.old) (So.faults source.new) }
+fn answer<So: Source>(alloc: Global, words: &[String], source: &mut So) -> Result<Reply, ReadError>
+    ensures reply { IfOk result (IsReplyFrom (request_of (words_of words.now)) (So.rest source.old)) }
+    ensures own { IfOk result (λ reply. ¬ IsFailure reply.status) }
+    ensures given { IfOk result (λ _. GaveFirst (bytes_wanted (request_of (words_of words.now)))
+        (So.rest source.old) (So.rest source.new)) }
+    ensures untouched { bytes_wanted (request_of (words_of words.now)) ≡ 0 → source.new ≡ source.old }
+    ensures failed { IsErrOf result ReadError.Failed
+        → Rose (So.faults source.old) (So.faults source.new) }
 {
-    match read_words(alloc, words)? {
-        Asked::Plain(stop) => plain(alloc, source, stop),
-        Asked::Refused(text) => Ok(Reply { status: 2, text }),
+    match read_request(alloc, words) {
+        Ok(Request::Plain(stop)) => plain(alloc, source, stop),
+        Ok(Request::NotBuilt) => Ok(not_built(alloc)?),
+        Err(WordsError::OutOfMemory) => Err(ReadError::OutOfMemory),
+        Err(error) => Ok(refuse(alloc, &error)?),
     }
 }
 
 // The reply to the text that a source gives.
-fn plain<So: Source>(alloc: Global, source: &mut So, stop: Option<Time>) -> Result<Reply, ReadFault>
+fn plain<So: Source>(alloc: Global, source: &mut So, stop: Option<Time>) -> Result<Reply, ReadError>
     requires { StopsInTime stop }
-    ensures answer { IfOk result (λ reply. IfSome (So.rest source.old) (λ bytes. IsAnswer stop (take 1048577 bytes) (answer_of reply))) }
-    ensures rest { IfOk result (λ _. IfSome (So.rest source.old) (λ bytes. So.rest source.new ≡ Some (drop 1048577 bytes))) }
-    ensures own { IfOk result (λ reply. IsFailure reply.status → ⊥) }
-    ensures later { So.faults source.old ≤ So.faults source.new }
-    ensures failed { IsErrOf result ReadFault.Failed → Rose (So.faults source.old) (So.faults source.new) }
+    ensures reply { IfOk result (IsReplyFrom (Ok (request.Plain stop)) (So.rest source.old)) }
+    ensures own { IfOk result (λ reply. ¬ IsFailure reply.status) }
+    ensures given { IfOk result (λ _.
+        GaveFirst (MOST_BYTES + 1) (So.rest source.old) (So.rest source.new)) }
+    ensures failed { IsErrOf result ReadError.Failed
+        → Rose (So.faults source.old) (So.faults source.new) }
 {
     let text = read_text(alloc, source, MOST_BYTES + 1)?;
     Ok(reply_to(alloc, &text, stop)?)
+}
+
+// The reply to words that ask for something that isn't built.
+fn not_built(alloc: Global) -> Result<Reply, AllocError>
+    ensures { IfOk result (λ r. IsReplyTo (Ok request.NotBuilt) [] r) }
+{
+    let line = Vec::from_slice(alloc, b"refused words NotBuilt\n")?;
+    Ok(Reply::new(Status::WordsRefused, line))
+}
+
+// The reply to words that are refused.
+fn refuse(alloc: Global, error: &WordsError) -> Result<Reply, AllocError>
+    requires { error.now ≢ WordsError.OutOfMemory }
+    ensures { IfOk result (λ r. IsReplyTo (Err error.now) [] r) }
+{
+    Ok(Reply::new(Status::WordsRefused, refusal(alloc, error)?))
 }

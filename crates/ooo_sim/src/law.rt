@@ -1,21 +1,31 @@
 //! What holds of the definitions: functions that do nothing, whose clauses are laws.
 
-ghost use Rattle.std.specs.Prelude.{◌≡◌, [], ◌∷◌, None, codes};
-ghost use Rattle.ooo_sim.specs.Asking.{request, PlainRun};
-ghost use Rattle.ooo_sim.specs.Laws.{IsOneModel};
-ghost use Rattle.ooo_sim.specs.Answers.{HasOneAnswer};
+ghost use Rattle.std.specs.Prelude.{◌≡◌, [], ◌∷◌, None, Ok, codes};
+ghost use Rattle.ooo_sim.specs.declared.request.Request.TheVariants as request;
+ghost use Rattle.ooo_sim.specs.Laws.{HasOneRefusal, IsOfOneModel, IsNotBoth, LeavesNoneOut, HasOneReply};
+ghost use Rattle.ooo_sim.specs.Requests.{request_of};
 
-/// A text is the spelling of one model at most: the grammar has no two readings.
-pub fn one_model()
-    ensures { IsOneModel }
-{}
+/// A text is refused, or it is a model's, not both, and in one way at most.
+pub fn one_reading()
+    ensures refusal { HasOneRefusal }
+    ensures model { IsOfOneModel }
+    ensures not_both { IsNotBoth }
+    ensures either { LeavesNoneOut }
+{
+    ooo_lexer::law::one_cutting();
+    ooo_lexer::law::one_breach();
+    ooo_threads::law::one_model();
+}
 
-/// A text has one answer: one status and one text to write.
-pub fn one_answer()
-    ensures { HasOneAnswer }
-{}
+/// Words have one reply from the bytes that they read: one status, and one text to write.
+pub fn one_reply()
+    ensures { HasOneReply }
+{
+    one_reading();
+    ooo_threads::law::one_result();
+}
 
 /// The one word `plain` asks for a run by the sequential scheduler, up to the model's own stop time.
 pub fn plain_asks_for_a_run()
-    ensures { request (codes "plain" ∷ []) ≡ PlainRun None }
+    ensures { request_of (codes "plain" ∷ []) ≡ Ok (request.Plain None) }
 {}

@@ -1,15 +1,21 @@
 //! The program's calls: what a simulation reads, runs and writes.
+//!
+//! [`alone`] and [`simulate`] carry the whole contract of the program. `specs/Replies.antt` says what a call would write,
+//! as one relation of the words, the bytes that they have read, and a reply; `specs/Refusals.antt` which texts the layers
+//! refuse, and `specs/Calls.antt` what a call reads and writes of its source and its sink.
 #![tactic(auto)]
 
-mod asked;
 mod call;
-mod form;
+mod front;
 pub mod law;
 mod lines;
-mod mark;
-mod names;
 mod pump;
 mod reply;
-mod reserved;
+mod request;
+mod status;
 
 pub use call::{alone, simulate};
+pub use front::Refusal;
+pub use reply::{MOST_BYTES, Reply};
+pub use request::Request;
+pub use status::Status;

@@ -1,34 +1,38 @@
 ghost use Rattle.std.specs.Prelude.{◌≡◌, IfOk};
-ghost use Rattle.ooo_sim.specs.Refusals.{refused_at, lexer_line};
+ghost use Rattle.ooo_sim.specs.Refusals.{layer_line, refusal_line};
 
+use crate::front::Refusal;
 use itoa::Buffer;
-use ooo_lexer::{LexError, Position};
+use ooo_lexer::Position;
 use std::alloc::{AllocError, Global};
 
-/// The line that refuses a text which the lexer refuses.
-pub(crate) fn lexer_line(alloc: Global, error: LexError) -> Result<Vec<u8>, AllocError>
-    ensures { IfOk result (λ line. line.items ≡ lexer_line error) }
+/// The line that refuses a text.
+pub(crate) fn refusal_line(alloc: Global, refusal: Refusal) -> Result<Vec<u8>, AllocError>
+    ensures { IfOk result (λ line. line.items ≡ refusal_line refusal) }
 {
-    match error {
-        LexError::BadByte(place) => refused_at(alloc, b"BadByte", place),
-        LexError::NumberTooWide(place) => refused_at(alloc, b"NumberTooWide", place),
-        LexError::TextNotClosed(place) => refused_at(alloc, b"TextNotClosed", place),
-        LexError::CommentNotClosed(place) => refused_at(alloc, b"CommentNotClosed", place),
-        LexError::Directive(place) => refused_at(alloc, b"Directive", place),
-        LexError::BadNumber(place) => refused_at(alloc, b"BadNumber", place),
-        LexError::OutOfMemory => Err(AllocError),
+    match refusal {
+        Refusal::Lexer(breach, at) => layer_line(alloc, "lexer", breach.name(), at),
+        Refusal::NotBuilt => Vec::from_slice(alloc, b"refused form NotBuilt\n"),
     }
 }
 
-fn refused_at(alloc: Global, name: &[u8], place: Position) -> Result<Vec<u8>, AllocError>
-    ensures { IfOk result (λ line. line.items ≡ refused_at name.now place) }
+// The line of a layer: the names of the layer and of what is wrong, and where that is.
+fn layer_line(
+    alloc: Global,
+    layer: &str,
+    name: &str,
+    at: Position,
+) -> Result<Vec<u8>, AllocError>
+    ensures { IfOk result (λ line. line.items ≡ layer_line layer.now name.now at) }
 {
-    let mut line = Vec::from_slice(alloc, b"refused lexer ")?;
-    line.extend_from_slice(name)?;
+    let mut line = Vec::from_slice(alloc, b"refused ")?;
+    line.extend_from_slice(layer.as_bytes())?;
     line.push(b' ')?;
-    line.extend_from_slice(Buffer::new().format(place.line).as_bytes())?;
+    line.extend_from_slice(name.as_bytes())?;
+    line.push(b' ')?;
+    line.extend_from_slice(Buffer::new().format(at.line).as_bytes())?;
     line.push(b':')?;
-    line.extend_from_slice(Buffer::new().format(place.column).as_bytes())?;
+    line.extend_from_slice(Buffer::new().format(at.column).as_bytes())?;
     line.push(b'\n')?;
     Ok(line)
 }

@@ -1,0 +1,14 @@
+pub mod Marks
+pub mod Spelling
+pub mod Parts
+pub mod Reserved
+pub mod Names
+pub mod Bodies
+pub mod Fitting
+pub mod World
+pub mod Sequence
+pub mod Threads
+pub mod Walker
+pub mod Ready
+pub mod Laws
+pub mod Report
