@@ -1,3 +1,4 @@
 pub mod World
 pub mod Sequence
 pub mod Runs
+pub mod Rows
