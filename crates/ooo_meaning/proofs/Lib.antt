@@ -1,0 +1,4 @@
+pub mod Readings
+pub mod WorkedRuns
+pub mod OneRun
+pub mod Alike

@@ -1,0 +1,5 @@
+pub mod World
+pub mod Sequence
+pub mod Runs
+pub mod Laws
+pub mod Rows
