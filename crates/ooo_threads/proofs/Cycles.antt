@@ -4,8 +4,8 @@ use Rattle.std.proofs.lemmas.List.{length-replicate}
 use Rattle.ooo_time.specs.declared.time.Time.{Time}
 use Rattle.ooo_time.specs.declared.stamp.Stamp.{Stamp}
 use Rattle.ooo_threads.specs.declared.model.Statement.{Statement}
-use Rattle.ooo_threads.specs.declared.run.End.{End}
-use Rattle.ooo_threads.specs.declared.run.End.TheVariants as end
+use Rattle.ooo_history.specs.declared.run.End.{End}
+use Rattle.ooo_history.specs.declared.run.End.TheVariants as end
 use Rattle.ooo_threads.specs.declared.walker.Paused.{Paused}
 use Rattle.ooo_threads.specs.World.{World, Over, Goes, next_due, settle, settled, stamp_of}
 use Rattle.ooo_threads.specs.Sequence.{Activate, State, Result, cycle, finish, run, IsRun, start}

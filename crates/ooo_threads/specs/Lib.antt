@@ -1,7 +1,6 @@
 pub mod Marks
 pub mod Spelling
 pub mod Parts
-pub mod Reserved
 pub mod Names
 pub mod Bodies
 pub mod Fitting
@@ -11,4 +10,3 @@ pub mod Threads
 pub mod Walker
 pub mod Ready
 pub mod Laws
-pub mod Report

@@ -6,7 +6,7 @@ use Rattle.ooo_threads.specs.declared.model.ThreadModel.{ThreadModel}
 use Rattle.ooo_threads.specs.declared.model.Function.{Function}
 use Rattle.ooo_threads.specs.declared.model.Statement.{Statement}
 use Rattle.ooo_threads.specs.declared.model.Statement.TheVariants as statement
-use Rattle.ooo_threads.specs.Reserved.{is_reserved}
+use Rattle.ooo_syntax.specs.Words.{is_reserved}
 
 -- a name is among these
 abbrev pub has_name : List (List ℕ) → List ℕ → Bool

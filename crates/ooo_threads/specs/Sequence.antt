@@ -1,7 +1,7 @@
 -- The sequential scheduler, over any definition of an activation (IEEE 1666-2011, 4.2.1).
 use Rattle.std.specs.Prelude.{◌≡◌, ℕ, zero, suc, ◌+◌, List, [], ◌∷◌, Option, Some, None, if◌then◌else◌, replicate, length}
 use Rattle.ooo_time.specs.declared.time.Time.{Time}
-use Rattle.ooo_threads.specs.declared.run.End.{End}
+use Rattle.ooo_history.specs.declared.run.End.{End}
 use Rattle.ooo_threads.specs.World.{World, View, Deed, Next, Over, Goes, view_of, after_deed, runs_now, settle, stamp_of}
 
 -- what an activation does, and where it leaves the process

@@ -8,8 +8,8 @@ use Rattle.ooo_time.specs.declared.time.Time.{Time}
 use Rattle.ooo_time.specs.declared.stamp.Stamp.{Stamp}
 use Rattle.ooo_threads.specs.declared.model.Function.{Function}
 use Rattle.ooo_threads.specs.declared.model.Statement.{Statement}
-use Rattle.ooo_threads.specs.declared.run.End.{End}
-use Rattle.ooo_threads.specs.declared.run.Run.{Run}
+use Rattle.ooo_history.specs.declared.run.End.{End}
+use Rattle.ooo_threads.specs.declared.run.ThreadRun.{ThreadRun}
 use Rattle.ooo_threads.specs.declared.walker.Due.{Due}
 use Rattle.ooo_threads.specs.declared.walker.Paused.{Paused}
 use Rattle.ooo_threads.specs.declared.walker.Walker.{Walker}
@@ -28,7 +28,7 @@ abbrev pub body_at : List Function → ℕ → List Statement
 body_at functions i = body_found (slice_get functions i)
 
 -- what a run shows: its output and how it ended
-abbrev pub result_of : Run → Result
+abbrev pub result_of : ThreadRun → Result
 result_of run = record { output = run.output.items; end = run.end }
 
 -- a run of threads has one result

@@ -3,8 +3,8 @@ use Rattle.std.specs.Prelude.{ℕ, List, [], ◌∷◌, ◌++◌, Option, Some, 
 use Rattle.ooo_time.specs.declared.time.Time.{Time}
 use Rattle.ooo_time.specs.declared.stamp.Stamp.{Stamp}
 use Rattle.ooo_time.specs.Stamps.{is_before, stamp_after}
-use Rattle.ooo_threads.specs.declared.run.End.{End}
-use Rattle.ooo_threads.specs.declared.run.End.TheVariants as end
+use Rattle.ooo_history.specs.declared.run.End.{End}
+use Rattle.ooo_history.specs.declared.run.End.TheVariants as end
 
 -- ---- stamps
 

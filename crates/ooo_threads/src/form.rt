@@ -13,8 +13,8 @@ mod sc_main;
 mod statement;
 
 use crate::form::lexemes::Lexemes;
-use ooo_lexer::Token;
 use crate::model::ThreadModel;
+use ooo_lexer::Token;
 use std::alloc::{AllocError, Global};
 
 /// Why lexemes are no model of the form.

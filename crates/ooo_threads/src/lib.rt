@@ -12,8 +12,6 @@ mod mark;
 mod model;
 mod names;
 mod ready;
-mod report;
-mod reserved;
 mod run;
 #[cfg(test)]
 mod tests;
@@ -22,6 +20,3 @@ mod walker;
 pub use form::FormError;
 pub use model::{Amount, Bytes, Function, Item, Statement, ThreadModel};
 pub use ready::Ready;
-pub use report::write_report;
-pub use run::{End, Run};
-pub use walker::run_threads;

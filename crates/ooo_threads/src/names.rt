@@ -1,14 +1,14 @@
 ghost use Rattle.std.specs.Prelude.{◌≡◌, ◌<◌, ◌++◌, [], ◌∷◌, true, false, not, map, take, length, All, is_some, IfOk, IfSome, IfNone, MatchOption};
 ghost use Rattle.std.specs.List.{list_any, list_all};
 ghost use Rattle.ooo_threads.specs.Names.{has_name, are_distinct, are_free, is_wait, is_registered, function_names, member_names, main_names, keeps_rules, names_keep_rules, threads_keep_rules};
-ghost use Rattle.ooo_threads.specs.Reserved.{is_reserved};
+ghost use Rattle.ooo_syntax.specs.Words.{is_reserved};
 ghost use Rattle.ooo_threads.specs.Threads.{body_named, bodies_of};
 ghost use Rattle.ooo_threads.specs.Bodies.{bytes_in, names_in};
 ghost use Rattle.ooo_threads.specs.Walker.{body_at};
 
-use crate::reserved::is_reserved;
-use indexmap::IndexSet;
 use crate::model::{Bytes, Function, Statement, ThreadModel};
+use indexmap::IndexSet;
+use ooo_syntax::is_reserved;
 use std::alloc::{AllocError, Global};
 
 // How many threads a model has at most.

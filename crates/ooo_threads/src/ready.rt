@@ -1,19 +1,23 @@
-ghost use Rattle.std.specs.Prelude.{◌≡◌, ◌≤◌, All, IfOk, map};
+ghost use Rattle.std.specs.Prelude.{◌≡◌, ◌≤◌, [], All, IfOk, map};
+ghost use Rattle.ooo_history.specs.Reporting.{IsNamed};
 ghost use Rattle.ooo_time.specs.Scales.{greatest_time};
 ghost use Rattle.ooo_lexer.specs.Spans.{IsWithin, lexeme_at};
 ghost use Rattle.ooo_threads.specs.declared.model.ThreadModel.{ThreadModel as ThreadModelSpec};
 ghost use Rattle.ooo_threads.specs.Fitting.{FitsAmount};
-ghost use Rattle.ooo_threads.specs.Ready.{IsModelOf, IsReady, IsRunOf, StopsInTime};
+ghost use Rattle.ooo_threads.specs.Ready.{IsModelOf, IsReady, IsReportOf, StopsInTime, report_of};
 ghost use Rattle.ooo_threads.specs.Threads.{stop_time};
 ghost use Rattle.ooo_threads.specs.Walker.{result_of};
 
 use crate::form::{FormError, read_model};
 use crate::model::ThreadModel;
 use crate::names::processes_of;
-use crate::run::Run;
+use crate::run::ThreadRun;
 use crate::walker::run_threads;
+use ooo_history::{Piece, Run, report};
 use ooo_lexer::Token;
-use ooo_time::Time;
+use ooo_time::{Place, Time};
+use ooo_value::Names;
+use sqlite_items::Items;
 use std::alloc::{AllocError, Global};
 
 /// A model that may run, with the number of the function of each process.
@@ -44,19 +48,46 @@ impl Ready {
         }
     }
 
-    /// Runs the model by the sequential scheduler, up to and including a stop time in place of its own, if one is given.
+    /// Runs the model by the sequential scheduler, up to and including a stop time in place of its own, if one is given,
+    /// and writes the report.
     ///
     /// # Errors
     ///
-    /// Only where memory ran out.
-    pub fn run(&self, alloc: Global, stop: Option<Time>) -> Result<Run, AllocError>
+    /// Only where memory runs out.
+    pub fn report(&self, alloc: Global, stop: Option<Time>) -> Result<Vec<u8>, AllocError>
         requires ready { IsReady self.now }
         requires stop { StopsInTime stop }
-        ensures { IfOk result (λ run. IsRunOf stop self.now.model (result_of run)) }
+        ensures { IfOk result (λ text. IsReportOf stop self.now.model text.items) }
     {
         let functions = self.model.functions.as_slice();
-        run_threads(alloc, functions, &self.processes, stop_time(stop, &self.model))
+        let until = stop_time(stop, &self.model);
+        let run = run_threads(alloc, functions, &self.processes, until)?;
+        write_report(alloc, run)
     }
+}
+
+// The report of a run. The models have no channels yet, and no ending names a process.
+fn write_report(alloc: Global, run: ThreadRun) -> Result<Vec<u8>, AllocError>
+    requires { IsNamed run.end [] }
+    ensures { IfOk result (λ text. text.items ≡ report_of (result_of run)) }
+{
+    let ThreadRun { output, end } = run;
+    let mut pieces = Items::new(alloc);
+    pieces.push(Piece {
+        place: Place::default(),
+        bytes: Items::from_vec(output),
+    })?;
+    let run = Run {
+        pieces,
+        channels: Items::new(alloc),
+        end,
+        activations: 0, // the report doesn't tell their number
+    };
+    let names = Names {
+        processes: Items::new(alloc),
+        channels: Items::new(alloc),
+    };
+    report(alloc, &run, &names)
 }
 
 // The given stop time, else the model's.

@@ -1,8 +1,10 @@
 ghost use Rattle.std.specs.Prelude.{◌≤◌, IfOk};
 ghost use Rattle.ooo_threads.specs.Fitting.{FitsAmount, FitsStatement, FitStatements};
 
-use crate::{Amount, Function, Item, Statement, run_threads, write_report};
-use ooo_time::{Scale, Time};
+use crate::walker::run_threads;
+use crate::{Amount, Function, Item, Statement};
+use ooo_history::End;
+use ooo_time::{Scale, Stamp, Time};
 use sqlite_items::Items;
 use std::alloc::{AllocError, Global};
 use std::test::Fail;
@@ -26,8 +28,16 @@ fn body(alloc: Global) -> Result<Items<Statement>, AllocError>
     Ok(body)
 }
 
+// The ending of a run whose last activation is at this time.
+fn idle(nanoseconds: u32) -> End {
+    End::Idle(Stamp {
+        time: Time(u64::from(nanoseconds) * 1_000),
+        delta: 0,
+    })
+}
+
 #[test]
-fn reports_a_run(rt: HostRuntime) -> Result<(), Fail> {
+fn runs_two_threads_of_one_function(rt: HostRuntime) -> Result<(), Fail> {
     let alloc = rt.alloc();
     let function = Function {
         name: Items::from_slice(alloc, b"f")?,
@@ -35,9 +45,8 @@ fn reports_a_run(rt: HostRuntime) -> Result<(), Fail> {
     };
     let functions = [function];
     let run = run_threads(alloc, &functions, &[0, 0], Time(10_000))?;
-    let report = write_report(run)?;
-    let wanted = b"a\tb\na\tb\n10 ns10 ns\n== histories\n== end\nidle 10 ns 0\n";
-    assert!(rt; report.as_slice() == wanted.as_slice());
+    assert!(rt; run.output.as_slice() == b"a\tb\na\tb\n10 ns10 ns".as_slice());
+    assert!(rt; run.end == idle(10));
     assert!(rt; TEN_NANOSECONDS.time() == Time(10_000));
     Ok(())
 }
@@ -92,8 +101,7 @@ fn runs_threads_by_time_and_number(rt: HostRuntime) -> Result<(), Fail> {
         thread(alloc, [b"g", b"h", b"i"], 10, 15)?,
     ];
     let run = run_threads(alloc, &functions, &[0, 1, 2], Time(100_000))?;
-    let report = write_report(run)?;
-    let wanted = b"adgbhcefi\n== histories\n== end\nidle 25 ns 0\n";
-    assert!(rt; report.as_slice() == wanted.as_slice());
+    assert!(rt; run.output.as_slice() == b"adgbhcefi".as_slice());
+    assert!(rt; run.end == idle(25));
     Ok(())
 }

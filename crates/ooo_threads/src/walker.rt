@@ -1,11 +1,13 @@
-ghost use Rattle.std.specs.Prelude.{◌≡◌, ◌+◌, ◌<◌, ◌≤◌, ◌∷◌, ◌++◌, length, map, OnOk, IfOk, IfSome, IfNone, All};
+ghost use Rattle.std.specs.Prelude.{◌≡◌, [], ◌+◌, ◌<◌, ◌≤◌, ◌∷◌, ◌++◌, length, map, OnOk, IfOk, IfSome, IfNone, All};
 ghost use Rattle.ooo_time.specs.Scales.{greatest_time};
+ghost use Rattle.ooo_history.specs.Reporting.{IsNamed};
 ghost use Rattle.ooo_threads.specs.Fitting.{FitStatements, FitFunctions};
 ghost use Rattle.ooo_threads.specs.Threads.{item_text, items_text, IsThreadRun};
 ghost use Rattle.ooo_threads.specs.Walker.{body_at, result_of, due_stamp, due_cmp, queued, first_stamp, IsFrom, IsReady, IsFirstQueue, TakesDue, TakesNone, Activated, Turned, Evaluated, Cycled};
 
 use crate::model::{Function, Item, Statement};
-use crate::run::{End, Run};
+use crate::run::ThreadRun;
+use ooo_history::End;
 use ooo_lexer::unescape;
 use ooo_time::{Stamp, Time, append};
 use std::alloc::{AllocError, Global};
@@ -43,16 +45,18 @@ struct Walker {
 /// # Errors
 ///
 /// Only where memory is wanting.
-pub fn run_threads(
+pub(crate) fn run_threads(
     alloc: Global,
     functions: &[Function],
     processes: &[usize],
     stop: Time,
-) -> Result<Run, AllocError>
+) -> Result<ThreadRun, AllocError>
     requires known { All (λ i. i < length functions.now) processes.now }
     requires fits { FitFunctions functions.now }
     requires stop { stop.0 ≤ greatest_time }
-    ensures { IfOk result (λ run. IsThreadRun (map (body_at functions.now) processes.now) stop (result_of run)) }
+    ensures run { IfOk result (λ run.
+        IsThreadRun (map (body_at functions.now) processes.now) stop (result_of run)) }
+    ensures nobody { IfOk result (λ run. IsNamed run.end []) }
 {
     let start = Paused {
         place: 0,
@@ -67,7 +71,7 @@ pub fn run_threads(
     };
     'cycles: loop {
         if let Some(end) = walker.cycle(functions, processes, stop)? {
-            return Ok(Run {
+            return Ok(ThreadRun {
                 output: walker.output,
                 end,
             });
@@ -88,7 +92,9 @@ impl Walker {
         requires fits { FitFunctions functions.now }
         requires time { self.old.time.0 ≤ greatest_time }
         requires ready { IsReady 0 self.old }
-        ensures { IfOk result (λ end. Cycled (map (body_at functions.now) processes.now) stop end self.old self.new) }
+        ensures cycled { IfOk result (λ end.
+            Cycled (map (body_at functions.now) processes.now) stop end self.old self.new) }
+        ensures nobody { IfOk result (λ end. IfSome end (λ end. IsNamed end [])) }
     {
         self.evaluate(functions, processes)?;
         let Some(next) = self.next_due() else {

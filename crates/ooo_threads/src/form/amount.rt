@@ -8,9 +8,9 @@ ghost use Rattle.ooo_threads.specs.Spelling.{scale_name, spell_amount};
 use crate::form::FormError;
 use crate::form::lexemes::Lexemes;
 use crate::mark::Mark;
+use crate::model::Amount;
 use itoa::Buffer;
 use ooo_lexer::TokenKind;
-use crate::model::Amount;
 use ooo_time::{Scale, from_amount};
 use std::str;
 

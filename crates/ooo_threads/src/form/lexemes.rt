@@ -7,8 +7,8 @@ ghost use Rattle.ooo_threads.specs.Spelling.{number, quoted};
 
 use crate::form::FormError;
 use crate::mark::Mark;
-use ooo_lexer::{Token, TokenKind};
 use crate::model::Bytes;
+use ooo_lexer::{Token, TokenKind};
 use sqlite_items::Items;
 use std::alloc::Global;
 use std::marker::Model;

@@ -1,6 +1,6 @@
 use Rattle.std.proofs.Common.{◌∙◌, not, sym}
 use Rattle.ooo_threads.specs.Names.{are_distinct, are_free}
-use Rattle.ooo_threads.specs.Reserved.{is_reserved}
+use Rattle.ooo_syntax.specs.Words.{is_reserved}
 use Rattle.ooo_threads.specs.Bodies.{bytes_in}
 use Rattle.ooo_threads.proofs.NameLists.{name_all}
 use Rattle.ooo_threads.proofs.Rules.{and_false, some_passes}

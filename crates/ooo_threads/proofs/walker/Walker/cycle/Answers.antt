@@ -5,22 +5,22 @@ use Rattle.ooo_threads.proofs.Cycles.{ends_here, goes_on, settle_none, settle_st
 use Rattle.ooo_threads.proofs.Next.{next_is, next_later}
 use Rattle.ooo_threads.proofs.walker.Walker.cycle.Goals as goal
 
-pub returns-in_default : goal.returns-in_default
-returns-in_default c =
+pub returns-in_default-clause-cycled : goal.returns-in_default-clause-cycled
+returns-in_default-clause-cycled c =
     let w = c.evaluate.new.self in
     let done = c.in_ok-evaluate.ensures in
     let due = next_is w.time.0 w.processes.items w.queue.keys None done.exact done.later c.in_default.ensures.first tt in
     ends_here (activate (map (body_at c.args.functions.now) c.args.processes.now)) c.args.stop _ (world_of w) (places_of w) _ done.comes (settle_none c.args.stop (world_of w) due)
 
-pub returns-then-next-stop : goal.returns-then-next-stop
-returns-then-next-stop c =
+pub returns-then-next-stop-clause-cycled : goal.returns-then-next-stop-clause-cycled
+returns-then-next-stop-clause-cycled c =
     let w = c.evaluate.new.self in
     let done = c.in_ok-evaluate.ensures in
     let due = next_is w.time.0 w.processes.items w.queue.keys (Some c.in-Some.next) done.exact done.later c.in-Some.ensures.first c.in-Some.ensures.all_from in
     ends_here (activate (map (body_at c.args.functions.now) c.args.processes.now)) c.args.stop _ (world_of w) (places_of w) _ done.comes (settle_stop c.args.stop (world_of w) (stamp_at c.in-Some.next) due c.if-next-stop.true)
 
-pub returns : goal.returns
-returns c =
+pub returns-clause-cycled : goal.returns-clause-cycled
+returns-clause-cycled c =
     let w = c.evaluate.new.self in
     let done = c.in_ok-evaluate.ensures in
     let due = next_is w.time.0 w.processes.items w.queue.keys (Some c.in-Some.next) done.exact done.later c.in-Some.ensures.first c.in-Some.ensures.all_from in

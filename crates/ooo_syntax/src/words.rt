@@ -1,0 +1,83 @@
+ghost use Rattle.std.specs.Prelude.{◌≡◌, find, true};
+ghost use Rattle.std.specs.Option.{option_copied};
+ghost use Rattle.ooo_syntax.specs.Rows.{are_by_length, has_bytes, in_rows, written_groups};
+ghost use Rattle.ooo_syntax.specs.Words.{is_reserved, only_follows_dot, signs, terminal_of, words, written_as};
+
+use crate::table::{Row, SIGNS, WORDS};
+use crate::terminal::Terminal;
+use ooo_lexer::TokenKind;
+use sqlite_items::at;
+
+/// What a token of this kind and these bytes is to the grammar.
+pub fn terminal_of(kind: TokenKind, bytes: &[u8]) -> Terminal
+    ensures { result ≡ terminal_of kind bytes.now }
+{
+    match kind {
+        TokenKind::Word => word(bytes).unwrap_or(Terminal::Word),
+        TokenKind::Number => Terminal::Number,
+        TokenKind::Text => Terminal::Text,
+        TokenKind::Sign => sign(bytes).unwrap_or(Terminal::Outside),
+    }
+}
+
+/// Whether no name may be these bytes.
+pub fn is_reserved(bytes: &[u8]) -> bool
+    ensures { result ≡ is_reserved bytes.now }
+{
+    match word(bytes) {
+        None => false,
+        Some(terminal) => !only_follows_dot(terminal),
+    }
+}
+
+// Whether the grammar holds the word only after a dot.
+fn only_follows_dot(terminal: Terminal) -> bool
+    ensures { result ≡ only_follows_dot terminal }
+{
+    matches!(
+        terminal,
+        Terminal::Notify | Terminal::Cancel | Terminal::Bind
+    )
+}
+
+#[tactic(auto, unfolding(crate::specs::Words::words))]
+fn word(bytes: &[u8]) -> Option<Terminal>
+    ensures { result ≡ written_as words bytes.now }
+{
+    in_groups(&WORDS, bytes)
+}
+
+#[tactic(auto, unfolding(crate::specs::Words::signs))]
+fn sign(bytes: &[u8]) -> Option<Terminal>
+    ensures { result ≡ written_as signs bytes.now }
+{
+    in_groups(&SIGNS, bytes)
+}
+
+// What the row with these bytes says, of those in the group of their length.
+fn in_groups(groups: &[&[Row]], bytes: &[u8]) -> Option<Terminal>
+    requires { are_by_length 0 groups.now ≡ true }
+    ensures { result ≡ written_as (written_groups groups.now) bytes.now }
+{
+    match at(groups, bytes.len()) {
+        None => None,
+        Some(rows) => in_rows(rows, bytes),
+    }
+}
+
+// What the first row with these bytes says.
+fn in_rows(rows: &[Row], bytes: &[u8]) -> Option<Terminal>
+    ensures { result ≡ in_rows rows.now bytes.now }
+{
+    match row_of(rows, bytes) {
+        None => None,
+        Some(row) => Some(row.terminal),
+    }
+}
+
+// The first row with these bytes.
+fn row_of<'a>(rows: &'a [Row], bytes: &[u8]) -> Option<&'a Row>
+    ensures { option_copied result ≡ find (has_bytes bytes.now) rows.now }
+{
+    rows.iter().find(|row| row.bytes == bytes)
+}
