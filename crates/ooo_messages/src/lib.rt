@@ -1,0 +1,10 @@
+//! What is wrong with words and texts, in words, for who reads standard error.
+#![tactic(auto)]
+
+pub mod law;
+mod reasons;
+
+pub use reasons::{lexer_breach, lexer_reason, words_reason};
+
+#[cfg(test)]
+mod tests;
