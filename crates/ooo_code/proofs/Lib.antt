@@ -1,0 +1,5 @@
+pub mod Lists
+pub mod Sights
+pub mod Expressing
+pub mod Frames
+pub mod Activations
