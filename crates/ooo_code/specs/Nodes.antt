@@ -188,9 +188,9 @@ abbrev pub pass : List Node → Running → (counted : Node → Next) → ℕ �
 pass nodes r counted zero number d = ends r.entry job.Ended d
 pass nodes r counted (suc m) number d = at_node r counted (pass nodes r counted m) (slice_get nodes number) number d
 
--- of a sound design, fewer nodes than this stand between two that count
+-- of a sound design, fewer nodes than this stand between two that count (`law::enough_nodes`)
 abbrev pub between : List Node → ℕ
-between nodes = suc (length nodes)
+between nodes = suc (suc (length nodes))
 
 -- one statement more than the limit
 abbrev pub at_limit : Running → Node → Next
