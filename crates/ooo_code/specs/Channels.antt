@@ -1,9 +1,8 @@
 -- Signals and fifos (IEEE 1666-2011, 6.4 and 6.23), with their update (4.2.1.3).
-use Rattle.std.specs.Prelude.{ℕ, ◌+◌, ◌-◌, ◌==◌, nat_lt, List, [], ◌∷◌, ◌++◌, length, drop, Bool, true, false, not, ◌&&◌, if◌then◌else◌, Option, Some, None, slice_get, pos}
+use Rattle.std.specs.Prelude.{ℕ, ◌+◌, ◌-◌, ◌==◌, nat_lt, List, [], ◌∷◌, ◌++◌, length, drop, Bool, false, not, ◌&&◌, if◌then◌else◌, Option, Some, None, slice_get, pos}
 use Rattle.std.specs.Ordering.{int_eq}
 use Rattle.ooo_time.specs.declared.time.Time.{Time}
 use Rattle.ooo_value.specs.declared.bound.BoundChannel.{BoundChannel}
-use Rattle.ooo_value.specs.declared.bound.ChannelKind.{ChannelKind}
 use Rattle.ooo_value.specs.declared.bound.ChannelKind.TheVariants as channel
 use Rattle.ooo_value.specs.declared.bound.BoundEvent.{BoundEvent}
 use Rattle.ooo_value.specs.declared.bound.BoundEvent.TheVariants as event

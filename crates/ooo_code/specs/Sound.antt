@@ -1,5 +1,5 @@
 -- When a design is sound.
-use Rattle.std.specs.Prelude.{◌≡◌, ℕ, ◌<◌, ◌≤◌, ◌==◌, ◌⊎◌, List, [], ◌∷◌, length, Bool, true, false, ◌&&◌, if◌then◌else◌, Option, Some, None, IsSome, IfSome, IsSomeAnd, IsTrue, All, Contains, slice_get, option_map}
+use Rattle.std.specs.Prelude.{◌≡◌, ℕ, ◌<◌, ◌≤◌, ◌⊎◌, List, length, Bool, true, false, if◌then◌else◌, Option, Some, None, IsSome, IfSome, IsSomeAnd, IsTrue, All, Contains, slice_get, option_map}
 use Rattle.ooo_time.specs.Scales.{greatest_time}
 use Rattle.ooo_value.specs.declared.bound.BoundChannel.{BoundChannel}
 use Rattle.ooo_value.specs.declared.bound.BoundEvent.{BoundEvent}
