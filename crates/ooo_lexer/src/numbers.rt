@@ -1,8 +1,6 @@
-ghost use Rattle.std.specs.Prelude.{◌≡◌, ◌<◌, ◌^◌, MatchOption, Some, length};
-ghost use Rattle.std.specs.List.{list_all};
-ghost use Rattle.ooo_lexer.specs.Bytes.{is_hex_digit};
+ghost use Rattle.std.specs.Prelude.{◌≡◌, ◌<◌, MatchOption, Some};
 ghost use Rattle.ooo_lexer.specs.Numbers.{radix, digit_value, value_of, kinds_of, greatest_of, first_holding, HasNoNumber, IsNumberOf};
-ghost use Rattle.ooo_lexer.specs.Numerals.{has_hex_prefix, class_of, are_digits, is_ending, suffix_of, fitting, sized, number_with, number_after, number_of};
+ghost use Rattle.ooo_lexer.specs.Numerals.{class_of, are_digits, suffix_of, fitting, number_with, number_after, number_of};
 
 use crate::breach::LexBreach;
 use crate::bytes::{Class, is_digit};

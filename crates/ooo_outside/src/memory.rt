@@ -1,4 +1,4 @@
-ghost use Rattle.std.specs.Prelude.{◌≡◌, ◌≤◌, ◌<◌, ◌+◌, ◌++◌, ◌⊎◌, ◌↔◌, min, [], length, take, vec_len, vec_capacity, IfOk, OnErr, IsErr, IsTrue, Contains};
+ghost use Rattle.std.specs.Prelude.{◌≡◌, ◌≤◌, ◌<◌, ◌+◌, ◌++◌, ◌↔◌, min, length, take, vec_len, vec_capacity, IfOk, OnErr, IsErr, IsTrue, Contains};
 ghost use Rattle.std.specs.Io.KnownBytes.{ReadConsumes, WriteAppends};
 ghost use Rattle.ooo_outside.specs.Causes.{HasCause};
 ghost use Rattle.ooo_outside.specs.Memory.{SinkFails, SourceFails, given_count, sink_failed, sink_made, sink_taken, source_failed, source_given, source_made, taken_count};
