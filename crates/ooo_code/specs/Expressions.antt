@@ -1,13 +1,13 @@
 -- What the expressions in nodes give (ISO C++ [expr]; IEEE 1666-2011, clause 6 for channels).
-use Rattle.std.specs.Prelude.{ℕ, ◌*◌, ◌==◌, nat_lt, nat_le, List, [], ◌∷◌, length, Bool, true, false, not, ◌&&◌, if◌then◌else◌, ℤ, pos, negsuc, Option, Some, None, Result, Ok, Err, slice_index_or}
+use Rattle.std.specs.Prelude.{ℕ, ◌==◌, nat_lt, List, [], ◌∷◌, length, Bool, true, false, not, ◌&&◌, if◌then◌else◌, ℤ, pos, negsuc, Option, Some, None, Result, Ok, Err, slice_index_or}
 use Rattle.ooo_time.specs.declared.time.Time.{Time}
 use Rattle.ooo_time.specs.declared.time.Scale.{Scale}
-use Rattle.ooo_time.specs.Scales.{ticks_of, greatest_time}
 use Rattle.ooo_value.specs.declared.operators.Fault.{Fault}
-use Rattle.ooo_value.specs.declared.operators.Fault.TheVariants.{IndexRange, BadTime}
+use Rattle.ooo_value.specs.declared.operators.Fault.TheVariants.{IndexRange}
 use Rattle.ooo_value.specs.declared.values.Value.{Value}
 use Rattle.ooo_value.specs.declared.values.Value.TheVariants as value
 use Rattle.ooo_value.specs.Values.{number_of, conversion_of, truth_of}
+use Rattle.ooo_value.specs.Times.{time_of}
 use Rattle.ooo_value.specs.Operators.{Answer, binary_of, negation_of, inversion_of}
 use Rattle.ooo_code.specs.declared.activation.Seen.{Seen}
 use Rattle.ooo_code.specs.declared.activation.Seen.TheVariants as seen
@@ -122,14 +122,9 @@ reading_of e = fold-NodeExpr Reading reading_step e
 
 -- ---- times
 
--- the time of a value in a unit: a whole number of ticks up to the greatest time, or the fault of the time
-abbrev pub time_in : Scale → ℤ → Result Time Fault
-time_in scale (pos n) = if nat_le (n * ticks_of scale) greatest_time then Ok (record { 0 = n * ticks_of scale }) else Err BadTime
-time_in scale (negsuc n) = Err BadTime
-
 -- the time in a unit that an answer gives
 abbrev pub time_by : Scale → Answer → Result Time Fault
-time_by scale (Ok v) = time_in scale (number_of v)
+time_by scale (Ok v) = time_of v scale
 time_by scale (Err f) = Err f
 
 -- the time that a time in a node gives
