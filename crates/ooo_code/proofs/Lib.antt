@@ -1,0 +1,6 @@
+pub mod Lists
+pub mod Sights
+pub mod Expressing
+pub mod Frames
+pub mod Activations
+pub mod Ending

@@ -1,9 +1,8 @@
 -- Signals and fifos (IEEE 1666-2011, 6.4 and 6.23), with their update (4.2.1.3).
-use Rattle.std.specs.Prelude.{ℕ, ◌+◌, ◌-◌, ◌==◌, nat_lt, List, [], ◌∷◌, ◌++◌, length, drop, Bool, true, false, not, ◌&&◌, if◌then◌else◌, Option, Some, None, slice_get, pos}
+use Rattle.std.specs.Prelude.{ℕ, ◌+◌, ◌-◌, ◌==◌, nat_lt, List, [], ◌∷◌, ◌++◌, length, drop, Bool, false, not, ◌&&◌, if◌then◌else◌, Option, Some, None, slice_get, pos}
 use Rattle.std.specs.Ordering.{int_eq}
 use Rattle.ooo_time.specs.declared.time.Time.{Time}
 use Rattle.ooo_value.specs.declared.bound.BoundChannel.{BoundChannel}
-use Rattle.ooo_value.specs.declared.bound.ChannelKind.{ChannelKind}
 use Rattle.ooo_value.specs.declared.bound.ChannelKind.TheVariants as channel
 use Rattle.ooo_value.specs.declared.bound.BoundEvent.{BoundEvent}
 use Rattle.ooo_value.specs.declared.bound.BoundEvent.TheVariants as event
@@ -15,14 +14,14 @@ use Rattle.ooo_code.specs.declared.activation.Seen.TheVariants as seen
 -- ---- what there is
 
 -- a signal: its value, the value that is requested in this cycle, and the time of the update just made, where that
--- changed the value (6.4.5 to 6.4.11)
+-- changed the value
 pub record Signal : Type 0 where
   pub current : Value
   pub requested : Option Value
   pub changed : Option Time
 
 -- a fifo: its size, the values that it held as this delta cycle began, how many of these were read in it, and the values
--- that were written in it (6.23.5 to 6.23.7); and the processes that hold its ends
+-- that were written in it; and the processes that hold its ends
 pub record Fifo : Type 0 where
   pub size : ℕ
   pub held : List Value
@@ -61,7 +60,7 @@ abbrev pub free_slots : Fifo → ℕ
 free_slots f = f.size - length f.held - length f.written
 
 -- what process p sees of channel number c at a time. Only who holds an end of a fifo sees that end; a change of a
--- signal counts only while time is still that of the update (6.4.9)
+-- signal counts only while time is still that of the update
 abbrev pub seen_of : Time → (p c : ℕ) → Channel → Seen
 seen_of now p c (IsSignal s) = seen.Signal c s.current (is_time now s.changed)
 seen_of now p c (IsFifo f) =
@@ -74,7 +73,7 @@ all_seen now p c (x ∷ xs) = seen_of now p c x ∷ all_seen now p (c + 1) xs
 
 -- ---- what an activation does to a channel
 
--- the last request of a cycle counts (6.4.4)
+-- the last request of a cycle counts
 abbrev pub requested : Value → Channel → Channel
 requested v (IsSignal s) = IsSignal (record s { requested = Some v })
 requested v (IsFifo f) = IsFifo f
@@ -119,7 +118,7 @@ on_fifo test (Some (IsFifo f)) = test f
 on_fifo test _ = false
 
 -- the update notifies an event: value changed where a signal's value changes, posedge and negedge where it becomes true
--- or false (6.4.8, 6.4.10), data written and data read where values were (6.23.8)
+-- or false, data written and data read where values were
 abbrev pub is_notified : List Channel → BoundEvent → Bool
 is_notified xs event.Own = false
 is_notified xs (event.Changed c) = on_signal changes (slice_get xs c)

@@ -5,3 +5,4 @@ pub mod Touches
 pub mod Channels
 pub mod Segments
 pub mod Sound
+pub mod Dependence

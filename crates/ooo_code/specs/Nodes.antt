@@ -1,17 +1,15 @@
 -- An activation over nodes (IEEE 1666-2011, 4.2.1.2 and 5.2): what a process does from its entry until it waits, ends,
 -- faults or would count one statement more than the limit.
-use Rattle.std.specs.Prelude.{ℕ, zero, suc, ◌-◌, ◌==◌, List, [], ◌∷◌, ◌++◌, length, drop, replicate, map, Bool, if◌then◌else◌, Option, Some, None, Result, Ok, Err, slice_get, slice_set}
+use Rattle.std.specs.Prelude.{ℕ, zero, suc, ◌-◌, ◌==◌, List, [], ◌∷◌, ◌++◌, length, drop, map, if◌then◌else◌, Option, Some, None, Result, Ok, Err, slice_get, slice_set}
 use Rattle.ooo_time.specs.declared.time.Time.{Time}
 use Rattle.ooo_time.specs.declared.stamp.Stamp.{Stamp}
 use Rattle.ooo_time.specs.TimeText.{time_text}
 use Rattle.ooo_value.specs.declared.bound.ProcessKind.{ProcessKind}
 use Rattle.ooo_value.specs.declared.bound.ProcessKind.TheVariants.{Thread, Method}
-use Rattle.ooo_value.specs.declared.kinds.Kind.{Kind}
 use Rattle.ooo_value.specs.declared.operators.Fault.{Fault}
 use Rattle.ooo_value.specs.declared.operators.Fault.TheVariants.{IndexRange}
 use Rattle.ooo_value.specs.declared.values.Value.{Value}
 use Rattle.ooo_value.specs.Values.{number_of, value_of}
-use Rattle.ooo_value.specs.Operators.{Answer}
 use Rattle.ooo_value.specs.ValueText.{value_text}
 use Rattle.std.specs.Prelude.{pos}
 use Rattle.ooo_code.specs.declared.activation.Effect.{Effect}
@@ -27,11 +25,12 @@ use Rattle.ooo_code.specs.declared.design.Proc.{Proc}
 use Rattle.ooo_code.specs.declared.node.Node.{Node}
 use Rattle.ooo_code.specs.declared.node.NodeKind.{NodeKind}
 use Rattle.ooo_code.specs.declared.node.NodeKind.TheVariants as kind
+use Rattle.ooo_code.specs.declared.node.NodeTime.{NodeTime}
 use Rattle.ooo_code.specs.declared.node.NodeWait.{NodeWait}
 use Rattle.ooo_code.specs.declared.segment.SegmentEntry.{SegmentEntry}
 use Rattle.ooo_code.specs.declared.segment.SegmentEntry.TheVariants.{Start, After}
-use Rattle.ooo_code.specs.Outcomes.{View, Deed, Outcome, Activate}
-use Rattle.ooo_code.specs.Expressions.{Sight, no_value, signal_seen, fifo_seen, cells_of, index_in, by_truth, reading_of, time_given}
+use Rattle.ooo_code.specs.Outcomes.{View, Outcome, Activate}
+use Rattle.ooo_code.specs.Expressions.{Sight, fifo_seen, cells_of, index_in, by_truth, reading_of, time_given}
 
 -- ---- what is known during an activation
 
@@ -110,9 +109,14 @@ abbrev pub with_index : Running → (line : ℕ) → Doing → Option ℕ → (�
 with_index r line d None go = ends r.entry (job.Faulted IndexRange line) d
 with_index r line d (Some i) go = go i
 
+abbrev pub some_time : Result Time Fault → Result (Option Time) Fault
+some_time (Ok k) = Ok (Some k)
+some_time (Err f) = Err f
+
 -- the time of a wait, if it has one
-abbrev pub wait_time : NodeWait → Sight → Result (Option Time) Fault
-wait_time w s = elim w.time [ None ↦ Ok None | Some t ↦ (elim (time_given t s) [ Ok k ↦ Ok (Some k) | Err f ↦ Err f ]) ]
+abbrev pub wait_time : Option NodeTime → Sight → Result (Option Time) Fault
+wait_time None s = Ok None
+wait_time (Some t) s = some_time (time_given t s)
 
 abbrev pub wait_on : NodeWait → Option Time → WaitOn
 wait_on w time = record { time = time; events = w.events }
@@ -122,6 +126,16 @@ abbrev pub at_end : Running → ProcessKind → Option WaitOn → Doing → Outc
 at_end r Thread trigger d = ends r.entry job.Ended d
 at_end r Method None d = ends Start (job.Waits (record { time = None; events = r.process.sensitive })) d
 at_end r Method (Some on) d = ends Start (job.Waits on) d
+
+-- what is done with the first of some values, or where there is none
+abbrev pub with_first : {A : Type 0} → List Value → A → (Value → A) → A
+with_first [] none go = none
+with_first (v ∷ vs) none go = go v
+
+-- what is done where no slot is free, or where one is
+abbrev pub if_free : {A : Type 0} → ℕ → A → A → A
+if_free zero none some = none
+if_free (suc n) none some = some
 
 -- ---- one node
 
@@ -145,11 +159,10 @@ act r kind.PrintTime number line to next d = next to (with_output (time_text r.s
 act r (kind.Write c e) number line to next d =
     with_result r line d (reading_of e (sight_of d)) (λ v. next to (with_effect (effect.Request c v) d))
 act r (kind.TestAvailable c no_to) number line to next d =
-    elim (fifo_seen d.seen c).values [ [] ↦ next no_to d | v ∷ vs ↦ next to d ]
-act r (kind.TestFree c no_to) number line to next d =
-    elim (fifo_seen d.seen c).free [ zero ↦ next no_to d | suc n ↦ next to d ]
+    with_first (fifo_seen d.seen c).values (next no_to d) (λ v. next to d)
+act r (kind.TestFree c no_to) number line to next d = if_free (fifo_seen d.seen c).free (next no_to d) (next to d)
 act r (kind.Take c n) number line to next d =
-    elim (fifo_seen d.seen c).values [ [] ↦ next to d | v ∷ vs ↦ next to (with_take c n v d) ]
+    with_first (fifo_seen d.seen c).values (next to d) (λ v. next to (with_take c n v d))
 act r (kind.Put c e) number line to next d =
     with_result r line d (reading_of e (sight_of d)) (λ v. next to (with_put c v d))
 act r (kind.Notify e t) number line to next d =
@@ -157,9 +170,9 @@ act r (kind.Notify e t) number line to next d =
 act r (kind.Cancel e) number line to next d = next to (with_effect (effect.Cancel e) d)
 act r kind.Stop number line to next d = next to (with_effect effect.Stop d)
 act r (kind.Trigger w) number line to next d =
-    with_result r line d (wait_time w (sight_of d)) (λ t. next to (record d { trigger = Some (wait_on w t) }))
+    with_result r line d (wait_time w.time (sight_of d)) (λ t. next to (record d { trigger = Some (wait_on w t) }))
 act r (kind.Wait w) number line to next d =
-    with_result r line d (wait_time w (sight_of d)) (λ t. ends (After number) (job.Waits (wait_on w t)) d)
+    with_result r line d (wait_time w.time (sight_of d)) (λ t. ends (After number) (job.Waits (wait_on w t)) d)
 act r kind.End number line to next d = at_end r r.process.kind d.trigger d
 
 -- ---- many nodes
@@ -175,9 +188,9 @@ abbrev pub pass : List Node → Running → (counted : Node → Next) → ℕ �
 pass nodes r counted zero number d = ends r.entry job.Ended d
 pass nodes r counted (suc m) number d = at_node r counted (pass nodes r counted m) (slice_get nodes number) number d
 
--- of a sound design, fewer nodes than this stand between two that count
+-- of a sound design, fewer nodes than this stand between two that count (`law::enough_nodes`)
 abbrev pub between : List Node → ℕ
-between nodes = suc (length nodes)
+between nodes = suc (suc (length nodes))
 
 -- one statement more than the limit
 abbrev pub at_limit : Running → Node → Next

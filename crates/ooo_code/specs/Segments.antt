@@ -1,5 +1,5 @@
 -- Segments: the nodes that a process may run up to its next wait.
-use Rattle.std.specs.Prelude.{◌≡◌, ℕ, ◌-◌, ◌==◌, ◌<◌, ◌≤◌, ◌⊎◌, ◌↔◌, List, [], ◌∷◌, map, take, drop, Bool, true, false, Option, Some, None, slice_get, if◌then◌else◌, Contains, IsSomeAnd, AllPairs}
+use Rattle.std.specs.Prelude.{◌≡◌, ℕ, ◌-◌, ◌<◌, ◌≤◌, ◌⊎◌, ◌↔◌, List, [], ◌∷◌, map, take, drop, Bool, true, false, Some, slice_get, if◌then◌else◌, Contains, IsSomeAnd, AllPairs}
 use Rattle.ooo_value.specs.declared.bound.ProcessKind.{ProcessKind}
 use Rattle.ooo_value.specs.declared.bound.ProcessKind.TheVariants.{Thread, Method}
 use Rattle.ooo_code.specs.declared.design.Design.{Design}

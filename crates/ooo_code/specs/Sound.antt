@@ -1,5 +1,5 @@
 -- When a design is sound.
-use Rattle.std.specs.Prelude.{◌≡◌, ℕ, ◌<◌, ◌≤◌, ◌==◌, ◌⊎◌, List, [], ◌∷◌, length, Bool, true, false, ◌&&◌, if◌then◌else◌, Option, Some, None, IsSome, IfSome, IsSomeAnd, IsTrue, All, Contains, slice_get, option_map}
+use Rattle.std.specs.Prelude.{◌≡◌, ℕ, ◌<◌, ◌≤◌, ◌⊎◌, List, length, Bool, true, false, if◌then◌else◌, Option, Some, None, IsSome, IfSome, IsSomeAnd, IsTrue, All, Contains, slice_get, option_map}
 use Rattle.ooo_time.specs.Scales.{greatest_time}
 use Rattle.ooo_value.specs.declared.bound.BoundChannel.{BoundChannel}
 use Rattle.ooo_value.specs.declared.bound.BoundEvent.{BoundEvent}
@@ -233,7 +233,7 @@ IsOfOne design touch = (p q : ℕ) → Uses design p touch → Uses design q tou
 -- ---- sound designs
 
 -- all numbers are in range and the kinds agree; no node is of two processes; an activation ends; each signal has one
--- writer (IEEE 1666-2011, 6.4.4), and each end of a fifo one process that holds it
+-- writer (IEEE 1666-2011, 6.4), and each end of a fifo one process that holds it
 pub record IsSound (design : Design) : Type 0 where
   pub variables : All FitsVariable design.variables
   pub channels : All FitsChannel design.channels

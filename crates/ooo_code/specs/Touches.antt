@@ -1,5 +1,5 @@
 -- What a node touches.
-use Rattle.std.specs.Prelude.{ℕ, ◌+◌, ◌==◌, List, [], ◌∷◌, ◌++◌, map, Bool, true, false, if◌then◌else◌, Option, Some, None}
+use Rattle.std.specs.Prelude.{ℕ, ◌+◌, ◌==◌, List, [], ◌∷◌, ◌++◌, map, Bool, false, if◌then◌else◌, Option, Some, None}
 use Rattle.ooo_time.specs.declared.time.Time.{Time}
 use Rattle.ooo_value.specs.declared.bound.BoundEvent.{BoundEvent}
 use Rattle.ooo_value.specs.declared.bound.BoundEvent.TheVariants as event
@@ -9,7 +9,6 @@ use Rattle.ooo_code.specs.declared.node.NodeKind.{NodeKind}
 use Rattle.ooo_code.specs.declared.node.NodeKind.TheVariants as kind
 use Rattle.ooo_code.specs.declared.node.NodeTime.{NodeTime}
 use Rattle.ooo_code.specs.declared.node.NodeTime.TheVariants as time
-use Rattle.ooo_code.specs.declared.node.NodeWait.{NodeWait}
 
 -- a thing that a node touches. An array is one variable. A notification has its constant time, and none where it is of
 -- one delta cycle or of a time that is computed.

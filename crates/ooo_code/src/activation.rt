@@ -25,7 +25,7 @@ pub enum Effect {
     Take(u32),
     /// Notifies an event with a delay (5.10.6).
     Notify(u32, Time),
-    /// Cancels what is pending of an event (5.10.7).
+    /// Cancels what is pending of an event (5.10.6).
     Cancel(u32),
     /// Calls `sc_stop` (4.5.3).
     Stop,

@@ -8,6 +8,7 @@
 mod activation;
 mod design;
 mod expression;
+pub mod law;
 mod limits;
 mod node;
 mod segment;

@@ -88,6 +88,10 @@ pub record IsNumberOf (bs : List ℕ) (n : Number) : Type 0 where
 abbrev pub IsNumber : List ℕ → Type 0
 IsNumber bs = (n : Number) × IsNumberOf bs n
 
+-- a number of no value
+abbrev pub HasNoNumber : List ℕ → Type 0
+HasNoNumber bs = (n : Number) → ¬ IsNumberOf bs n
+
 -- the bytes are written as a number, and none of its kinds holds the value
 pub record IsTooWide (bs : List ℕ) : Type 0 where
   pub base : Base

@@ -1,4 +1,4 @@
-ghost use Rattle.std.specs.Prelude.{◌≡◌, ◌≤◌, length, drop};
+ghost use Rattle.std.specs.Prelude.{◌≡◌, ◌≤◌, length};
 ghost use Rattle.std.specs.List.{prefix_len, take_while};
 ghost use Rattle.ooo_lexer.specs.Bytes.{is_space, is_blank, is_digit, begins_word, is_word_byte, is_hex_digit};
 ghost use Rattle.ooo_lexer.specs.Runs.{has, after_run};

@@ -1,6 +1,6 @@
-ghost use Rattle.std.specs.Prelude.{◌≡◌, ◌≤◌, ◌∷◌, length, IfSome};
+ghost use Rattle.std.specs.Prelude.{◌≡◌, ◌≤◌, length, IfSome};
 ghost use Rattle.ooo_lexer.specs.Forms.{headers};
-ghost use Rattle.ooo_lexer.specs.Heads.{head, flaw, header_length, is_end, is_named, is_include, directive_head, close_at, block_head, begins_triple, is_pair, takes_equals, may_be_doubled, stands_alone, is_lone_sign, sign_head, mark_head};
+ghost use Rattle.ooo_lexer.specs.Heads.{flaw, header_length, is_end, is_named, is_include, directive_head, close_at, block_head, is_pair, takes_equals, may_be_doubled, stands_alone, is_lone_sign, sign_head, mark_head};
 
 use crate::breach::LexBreach;
 use crate::bytes::Class;

@@ -1,9 +1,6 @@
-ghost use Rattle.std.specs.Prelude.{◌≡◌, ◌<◌, ◌^◌, MatchOption, Some, length};
-ghost use Rattle.std.specs.List.{list_all};
-ghost use Rattle.ooo_lexer.specs.declared.numbers.Number.{Number as Value};
-ghost use Rattle.ooo_lexer.specs.Bytes.{is_hex_digit};
-ghost use Rattle.ooo_lexer.specs.Numbers.{radix, digit_value, value_of, kinds_of, greatest_of, first_holding, IsNumberOf};
-ghost use Rattle.ooo_lexer.specs.Numerals.{has_hex_prefix, class_of, are_digits, is_ending, suffix_of, fitting, sized, number_with, number_after, number_of};
+ghost use Rattle.std.specs.Prelude.{◌≡◌, ◌<◌, MatchOption, Some};
+ghost use Rattle.ooo_lexer.specs.Numbers.{radix, digit_value, value_of, kinds_of, greatest_of, first_holding, HasNoNumber, IsNumberOf};
+ghost use Rattle.ooo_lexer.specs.Numerals.{class_of, are_digits, suffix_of, fitting, number_with, number_after, number_of};
 
 use crate::breach::LexBreach;
 use crate::bytes::{Class, is_digit};
@@ -50,10 +47,10 @@ pub(crate) enum Suffix {
     UnsignedLong,
 }
 
-/// The number that a number token's bytes are, or none where they are no number or none of its kinds holds the value
-/// (ISO/IEC 14882, [lex.icon]).
+/// The number that a number token's bytes are, or none where they are no number or none of its kinds
+/// holds the value (ISO/IEC 14882, [lex.icon]).
 pub fn read_number(bytes: &[u8]) -> Option<Number>
-    ensures { MatchOption result ((n : Value) → IsNumberOf bytes.now n → ⊥) (λ n. IsNumberOf bytes.now n) }
+    ensures { MatchOption result (HasNoNumber bytes.now) (λ n. IsNumberOf bytes.now n) }
 {
     number_of(bytes).ok()
 }

@@ -1,4 +1,4 @@
-ghost use Rattle.std.specs.Prelude.{◌≡◌, ◌≤◌, ◌<◌, ◌+◌, ◌++◌, ◌^◌, List, [], All, map, take, length, OnOk, IfOk};
+ghost use Rattle.std.specs.Prelude.{◌≡◌, ◌≤◌, ◌<◌, ◌+◌, ◌++◌, ◌^◌, All, map, take, length, OnOk, IfOk};
 ghost use Rattle.ooo_lexer.specs.Pieces.{IsUncut, AreLexemesOf};
 ghost use Rattle.ooo_lexer.specs.Spans.{AreTokensOf, AreOnlyTokensOf, IsWithin, AreInOrder, lexeme_at};
 ghost use Rattle.ooo_lexer.specs.Breaches.{HasBreach, IsOnlyBreach, IsUnbroken, IfRefused};

@@ -1,7 +1,6 @@
 -- What each form of expression gives, as an equation.
 use Rattle.std.proofs.Common.{◌≡◌, ℕ}
 use Rattle.ooo_value.specs.declared.values.Value.{Value}
-use Rattle.ooo_value.specs.declared.kinds.Kind.{Kind}
 use Rattle.ooo_value.specs.declared.operators.Op.{Op}
 use Rattle.ooo_code.specs.declared.expression.NodeExpr.{NodeExpr, the_lemmas}
 use Rattle.ooo_code.specs.declared.expression.NodeExpr.TheOpen as layer
@@ -23,4 +22,3 @@ reading-Binary op a b = search (the_lemmas)
 pub reading-Variable : (x : ℕ) → reading_of (expression.Variable x) ≡ reading_step (layer.Variable x)
 unfolding reading_of
 reading-Variable x = search (the_lemmas)
-

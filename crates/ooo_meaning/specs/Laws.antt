@@ -1,13 +1,12 @@
 -- What the laws of the scheduler speak of.
-use Rattle.std.specs.Prelude.{◌≡◌, ℕ, zero, suc, ◌+◌, ◌-◌, ◌*◌, ◌<◌, ◌≤◌, List, [], ◌∷◌, map, false, slice_get}
+use Rattle.std.specs.Prelude.{◌≡◌, ℕ, suc, ◌+◌, ◌-◌, ◌*◌, ◌<◌, ◌≤◌, List, [], ◌∷◌, map}
 use Rattle.ooo_events.specs.Slots.{Slot, Nothing, NextDelta, AtTime}
 use Rattle.ooo_code.specs.declared.limits.Limits.{Limits}
 use Rattle.ooo_code.specs.Outcomes.{View, Outcome, Activate}
-use Rattle.ooo_meaning.specs.World.{World, Wait, runs_now}
-use Rattle.ooo_meaning.specs.Sequence.{State, Result, turn, evaluate, run_whole}
+use Rattle.ooo_meaning.specs.World.{World, Wait}
+use Rattle.ooo_meaning.specs.Sequence.{State}
 
 -- ---- two activations that are alike
-
 
 -- process p does the same, and is left at related places
 pub record SameOutcome {K L : Type 0} (R : ℕ → K → L → Type 0) (p : ℕ) (a : Outcome K) (b : Outcome L) : Type 0 where

@@ -1,5 +1,6 @@
--- Models worked by hand as designs. The law `worked_runs` says which report the sequential run of each gives.
-use Rattle.std.specs.Prelude.{ℕ, zero, suc, ◌+◌, ◌*◌, ◌==◌, List, [], ◌∷◌, ◌++◌, length, map, replicate, Bool, true, false, not, if◌then◌else◌, Option, Some, None, codes, pos}
+-- Models worked by hand as designs. `WorkedRuns` says which report the run of each gives, which is computed from the
+-- definitions alone (`law::worked_runs`).
+use Rattle.std.specs.Prelude.{◌≡◌, ℕ, zero, suc, ◌+◌, ◌*◌, ◌==◌, List, [], ◌∷◌, ◌++◌, length, map, replicate, true, false, not, if◌then◌else◌, Option, Some, None, codes, pos}
 use Rattle.ooo_time.specs.declared.time.Time.{Time}
 use Rattle.ooo_time.specs.TimeText.{time_text}
 use Rattle.ooo_value.specs.declared.bound.BoundChannel.{BoundChannel}
@@ -7,7 +8,6 @@ use Rattle.ooo_value.specs.declared.bound.BoundEvent.{BoundEvent}
 use Rattle.ooo_value.specs.declared.bound.BoundEvent.TheVariants as event
 use Rattle.ooo_value.specs.declared.bound.BoundVariable.{BoundVariable}
 use Rattle.ooo_value.specs.declared.bound.ChannelKind.TheVariants as channel
-use Rattle.ooo_value.specs.declared.bound.ProcessKind.{ProcessKind}
 use Rattle.ooo_value.specs.declared.bound.ProcessKind.TheVariants.{Thread, Method}
 use Rattle.ooo_value.specs.declared.kinds.Kind.{Kind}
 use Rattle.ooo_value.specs.declared.kinds.Kind.TheVariants as value_kind
@@ -26,7 +26,6 @@ use Rattle.ooo_code.specs.declared.node.Node.{Node}
 use Rattle.ooo_code.specs.declared.node.NodeKind.{NodeKind}
 use Rattle.ooo_code.specs.declared.node.NodeKind.TheVariants as kind
 use Rattle.ooo_code.specs.declared.node.NodeTime.TheVariants as time
-use Rattle.ooo_code.specs.declared.node.NodeWait.{NodeWait}
 use Rattle.ooo_code.specs.declared.activation.Effect.{Effect}
 use Rattle.ooo_code.specs.declared.activation.Effect.TheVariants as effect
 use Rattle.ooo_code.specs.declared.activation.JobEnd.{JobEnd}
@@ -111,9 +110,9 @@ notify n = kind.Notify 0 (time.Fixed (ns n))
 abbrev pub event_overrides : Design
 event_overrides = record {
   nodes =
-    counted (notify 20) 4 1 ∷ counted (notify 10) 4 2 ∷ counted (notify 30) 4 3 ∷ counted (fixed 15) 4 4
-    ∷ counted (notify 10) 5 5 ∷ counted (notify 0) 5 6 ∷ counted (fixed 5) 5 7 ∷ counted (notify 10) 6 8 ∷ counted (kind.Cancel 0) 6 9 ∷ uncounted kind.End 6 9
-    ∷ counted kind.Goto 7 11 ∷ counted (on_event 0) 7 12 ∷ counted kind.PrintTime 7 13 ∷ uncounted (kind.PrintText (10 ∷ [])) 7 10 ∷ [];
+      counted (notify 20) 4 1 ∷ counted (notify 10) 4 2 ∷ counted (notify 30) 4 3 ∷ counted (fixed 15) 4 4
+      ∷ counted (notify 10) 5 5 ∷ counted (notify 0) 5 6 ∷ counted (fixed 5) 5 7 ∷ counted (notify 10) 6 8 ∷ counted (kind.Cancel 0) 6 9 ∷ uncounted kind.End 6 9
+      ∷ counted kind.Goto 7 11 ∷ counted (on_event 0) 7 12 ∷ counted kind.PrintTime 7 13 ∷ uncounted (kind.PrintText (10 ∷ [])) 7 10 ∷ [];
   processes = thread 0 10 [] [] ∷ thread 10 14 [] [] ∷ [];
   variables = [];
   channels = [];
@@ -128,8 +127,8 @@ event_overrides_report = report_in 9 event_overrides (limits 100 10) (names [] [
 abbrev pub crossed_signals : Design
 crossed_signals = record {
   nodes =
-    counted (kind.Write 0 (add (expression.Signal 1) (int 1))) 4 1 ∷ uncounted kind.End 4 1
-    ∷ counted (kind.Write 1 (add (expression.Signal 0) (int 1))) 5 3 ∷ uncounted kind.End 5 3 ∷ [];
+      counted (kind.Write 0 (add (expression.Signal 1) (int 1))) 4 1 ∷ uncounted kind.End 4 1
+      ∷ counted (kind.Write 1 (add (expression.Signal 0) (int 1))) 5 3 ∷ uncounted kind.End 5 3 ∷ [];
   processes = method 0 2 [] ∷ method 2 4 [] ∷ [];
   variables = [];
   channels = signal value_kind.Int ∷ signal value_kind.Int ∷ [];
@@ -144,8 +143,8 @@ crossed_signals_report = report_in 5 crossed_signals (limits 100 9) (names [] (c
 abbrev pub two_printing_threads : Design
 two_printing_threads = record {
   nodes =
-    counted (kind.PrintText (codes "a\n")) 3 1 ∷ counted (fixed 10) 3 2 ∷ counted kind.PrintTime 3 3 ∷ uncounted (kind.PrintText (10 ∷ [])) 3 4 ∷ uncounted kind.End 3 4
-    ∷ counted (kind.PrintText (codes "b\n")) 4 6 ∷ uncounted kind.End 4 6 ∷ [];
+      counted (kind.PrintText (codes "a\n")) 3 1 ∷ counted (fixed 10) 3 2 ∷ counted kind.PrintTime 3 3 ∷ uncounted (kind.PrintText (10 ∷ [])) 3 4 ∷ uncounted kind.End 3 4
+      ∷ counted (kind.PrintText (codes "b\n")) 4 6 ∷ uncounted kind.End 4 6 ∷ [];
   processes = thread 0 5 [] [] ∷ thread 5 7 [] [] ∷ [];
   variables = [];
   channels = [];
@@ -172,9 +171,9 @@ empty_model_report = report_in 1 empty_model (limits 10 10) (names [] [])
 abbrev pub time_or_event : Design
 time_or_event = record {
   nodes =
-    counted (notify 10) 4 1 ∷ uncounted kind.End 4 1
-    ∷ counted (fixed_or_event 10 0) 5 3 ∷ counted kind.PrintTime 5 4 ∷ uncounted (kind.PrintText (10 ∷ [])) 5 5
-    ∷ counted (fixed_or_event 10 0) 5 6 ∷ counted kind.PrintTime 5 7 ∷ uncounted (kind.PrintText (10 ∷ [])) 5 8 ∷ uncounted kind.End 5 8 ∷ [];
+      counted (notify 10) 4 1 ∷ uncounted kind.End 4 1
+      ∷ counted (fixed_or_event 10 0) 5 3 ∷ counted kind.PrintTime 5 4 ∷ uncounted (kind.PrintText (10 ∷ [])) 5 5
+      ∷ counted (fixed_or_event 10 0) 5 6 ∷ counted kind.PrintTime 5 7 ∷ uncounted (kind.PrintText (10 ∷ [])) 5 8 ∷ uncounted kind.End 5 8 ∷ [];
   processes = thread 0 2 [] [] ∷ thread 2 9 [] [] ∷ [];
   variables = [];
   channels = [];
@@ -189,8 +188,8 @@ time_or_event_report = report_in 4 time_or_event (limits 100 10) (names [] [])
 abbrev pub endless_loop : Design
 endless_loop = record {
   nodes =
-    counted (kind.PrintText (codes "x\n")) 3 1 ∷ counted kind.Goto 3 1
-    ∷ counted kind.Goto 4 3 ∷ counted (kind.PrintText (codes "y\n")) 4 4 ∷ counted (fixed 10) 4 2 ∷ [];
+      counted (kind.PrintText (codes "x\n")) 3 1 ∷ counted kind.Goto 3 1
+      ∷ counted kind.Goto 4 3 ∷ counted (kind.PrintText (codes "y\n")) 4 4 ∷ counted (fixed 10) 4 2 ∷ [];
   processes = thread 0 2 [] [] ∷ thread 2 5 [] [] ∷ [];
   variables = [];
   channels = [];
@@ -223,7 +222,7 @@ stop_or_fault_report = report_in 2 stop_or_fault (limits 100 10) (names (codes "
 abbrev pub stop_before_fault : Design
 stop_before_fault = record {
   nodes =
-    counted kind.Stop 4 1 ∷ uncounted kind.End 4 1 ∷ counted (fixed 0) 5 3 ∷ counted (kind.Store 0 None one_over_z) 5 4 ∷ uncounted kind.End 5 4 ∷ [];
+      counted kind.Stop 4 1 ∷ uncounted kind.End 4 1 ∷ counted (fixed 0) 5 3 ∷ counted (kind.Store 0 None one_over_z) 5 4 ∷ uncounted kind.End 5 4 ∷ [];
   processes = thread 0 2 [] [] ∷ thread 2 5 [] [] ∷ [];
   variables = z ∷ [];
   channels = [];
@@ -247,7 +246,6 @@ endless_deltas = record {
 abbrev pub endless_deltas_report : List ℕ
 endless_deltas_report = report_in 5 endless_deltas (limits 100 4) (names [] [])
 
-
 -- ---- processes that are told by what they do at each place, so that channels can be tried without expressions
 
 abbrev pub does : View → (output : List ℕ) → List Effect → JobEnd → (next : ℕ) → Outcome ℕ
@@ -266,7 +264,7 @@ told_report activate processes cycles events channels bounds channel_names =
     report_of
     (names [] channel_names)
     (run_whole activate (numbers_from 0 processes) bounds cycles
-      (state_of (first_world (replicate processes awake) [] events channels) (replicate processes 0)))
+    (state_of (first_world (replicate processes awake) [] events channels) (replicate processes 0)))
 
 abbrev pub fifo_from : (size writer reader : ℕ) → Channel
 fifo_from size writer reader =
@@ -358,3 +356,38 @@ clocked_producer_report =
     (signal_at (value.Bool false) ∷ fifo_from 16 1 2 ∷ [])
     (limits 25 10)
     (codes "clk" ∷ codes "queue" ∷ [])
+
+-- ---- the reports
+
+-- what the sequential runs above give
+pub record WorkedRuns : Type 0 where
+  pub two_printing_threads : two_printing_threads_report ≡ codes "a\nb\n10 ns\n== histories\n== end\nidle 10 ns 0\n"
+  pub stopped_at_5_ns : stopped_at_5_ns_report ≡ codes "a\nb\n== histories\n== end\ntime 5 ns\n"
+  pub empty_model : empty_model_report ≡ codes "== histories\n== end\nidle 0 s 0\n"
+  pub event_overrides : event_overrides_report ≡ codes "10 ns\n15 ns\n== histories\n== end\nidle 20 ns 0\n"
+  pub time_or_event : time_or_event_report ≡ codes "10 ns\n20 ns\n== histories\n== end\nidle 20 ns 0\n"
+  pub endless_loop : endless_loop_report ≡ codes "x\n== histories\n== end\nstatements 0 s 0 m.a 3\n"
+  pub crossed_signals :
+      crossed_signals_report
+      ≡ codes "== histories\nm.x @ 0 s 0 = 1\nm.y @ 0 s 0 = 1\n== end\nidle 0 s 0\n"
+  pub stop_or_fault : stop_or_fault_report ≡ codes "== histories\n== end\nfault DivideByZero 0 s 0 m.b 5\n"
+  pub stop_before_fault : stop_before_fault_report ≡ codes "== histories\n== end\nstop 0 s 0\n"
+  pub endless_deltas : endless_deltas_report ≡ codes "0 s\n0 s\n0 s\n== histories\n== end\ndeltas 0 s 4\n"
+  pub fifo_of_one :
+      fifo_of_one_report
+      ≡ codes "1\n2\n3\n== histories\nm.q @ 0 s 0 in 1\nm.q @ 0 s 1 out 1\nm.q @ 0 s 2 in 2\n"
+      ++ codes "m.q @ 0 s 3 out 2\nm.q @ 0 s 4 in 3\nm.q @ 0 s 5 out 3\n== end\nidle 0 s 5\n"
+  pub freed_slot :
+      freed_slot_report
+      ≡ codes "0\n== histories\nm.q @ 0 s 0 in 1\nm.q @ 5 ns 0 out 1\n== end\nidle 5 ns 0\n"
+  pub crossed_methods :
+      crossed_methods_report
+      ≡ codes "== histories\nm.a @ 0 s 0 = 1\nm.a @ 0 s 2 = 0\nm.b @ 0 s 1 = 1\n"
+      ++ codes "m.b @ 0 s 3 = 0\n== end\ndeltas 0 s 4\n"
+  pub clocked_producer :
+      clocked_producer_report
+      ≡ codes "0 s: 1\n10 ns: 2\n20 ns: 3\n== histories\nclk @ 0 s 0 = 1\nclk @ 5 ns 0 = 0\n"
+      ++ codes "clk @ 10 ns 0 = 1\nclk @ 15 ns 0 = 0\nclk @ 20 ns 0 = 1\nclk @ 25 ns 0 = 0\n"
+      ++ codes "queue @ 0 s 1 in 1\nqueue @ 0 s 2 out 1\nqueue @ 10 ns 1 in 2\n"
+      ++ codes "queue @ 10 ns 2 out 2\nqueue @ 20 ns 1 in 3\nqueue @ 20 ns 2 out 3\n== end\n"
+      ++ codes "time 25 ns\n"

@@ -1,5 +1,5 @@
 -- The sequential scheduler, over any definition of an activation and in any order of the processes (IEEE 1666-2011, 4.2.1).
-use Rattle.std.specs.Prelude.{◌≡◌, ℕ, zero, suc, ◌+◌, ◌==◌, List, [], ◌∷◌, fold, filter, if◌then◌else◌, Option, Some, None, slice_get, slice_set}
+use Rattle.std.specs.Prelude.{◌≡◌, ℕ, zero, suc, ◌==◌, List, fold, filter, if◌then◌else◌, Option, Some, None, slice_get, slice_set}
 use Rattle.std.specs.List.{flat_map}
 use Rattle.ooo_code.specs.declared.limits.Limits.{Limits}
 use Rattle.ooo_code.specs.Outcomes.{View, Outcome, Activate}

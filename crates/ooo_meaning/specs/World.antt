@@ -1,6 +1,6 @@
 -- What a sequential run shares: everything but where each process is in its code (IEEE 1666-2011, 4.2.1).
-use Rattle.std.specs.Prelude.{ℕ, ◌+◌, ◌==◌, nat_lt, List, [], ◌∷◌, ◌++◌, length, map, fold, filter, take, replicate, Bool, true, false, not, ◌&&◌, ◌||◌, if◌then◌else◌, Option, Some, None, is_none, slice_get, slice_set, slice_index_or, pos}
-use Rattle.std.specs.List.{list_any, flat_map}
+use Rattle.std.specs.Prelude.{ℕ, ◌+◌, ◌==◌, nat_lt, List, [], ◌∷◌, ◌++◌, map, fold, take, Bool, true, false, ◌&&◌, ◌||◌, if◌then◌else◌, Option, Some, None, is_none, slice_set, slice_index_or}
+use Rattle.std.specs.List.{list_any}
 use Rattle.ooo_time.specs.declared.time.Time.{Time}
 use Rattle.ooo_time.specs.declared.stamp.Stamp.{Stamp}
 use Rattle.ooo_time.specs.declared.stamp.Place.{Place}
@@ -15,7 +15,7 @@ use Rattle.ooo_code.specs.declared.activation.JobEnd.TheVariants as job
 use Rattle.ooo_code.specs.declared.limits.Limits.{Limits}
 use Rattle.ooo_code.specs.Expressions.{no_value}
 use Rattle.ooo_code.specs.Outcomes.{View, Deed}
-use Rattle.ooo_code.specs.Channels.{Channel, Signal, IsSignal, IsFifo, all_seen, requested, put_into, taken_from, changes, next_value, available, updated, is_notified}
+use Rattle.ooo_code.specs.Channels.{Channel, Signal, IsSignal, IsFifo, all_seen, requested, put_into, taken_from, changes, next_value, updated, is_notified}
 use Rattle.ooo_history.specs.declared.run.What.TheVariants.{Took, Put, Changed}
 use Rattle.ooo_history.specs.declared.run.Entry.{Entry}
 use Rattle.ooo_history.specs.declared.run.End.{End}

@@ -1,5 +1,5 @@
 -- What a source and a sink in memory are.
-use Rattle.std.specs.Prelude.{ℕ, ◌+◌, ◌-◌, ◌^◌, ◌++◌, min, List, take, drop}
+use Rattle.std.specs.Prelude.{◌≡◌, ℕ, ◌+◌, ◌-◌, ◌^◌, ◌⊎◌, ◌++◌, min, List, [], Contains, take, drop, length}
 
 -- the next value of a 64-bit counter, which stands still at its end
 abbrev pub counted : ℕ → ℕ
@@ -22,6 +22,30 @@ pub record SinkState : Type 0 where
   pub failing : List ℕ
   pub calls : ℕ
   pub faults : ℕ
+
+-- a source of these bytes on which no call was made
+abbrev pub source_made : List ℕ → ℕ → List ℕ → SourceState
+source_made bytes most failing = record { rest = bytes; most = most; failing = failing; calls = 0; faults = 0 }
+
+-- the next call of the source is one of those that are to fail
+abbrev pub SourceFails : SourceState → Type 0
+SourceFails s = Contains s.failing (counted s.calls)
+
+-- how many bytes a call gives that has this room
+abbrev pub given_count : SourceState → List ℕ → ℕ
+given_count s into = min s.most (min (length into) (length s.rest))
+
+-- an empty sink with this room on which no call was made
+abbrev pub sink_made : ℕ → ℕ → List ℕ → SinkState
+sink_made room most failing = record { held = []; room = room; most = most; failing = failing; calls = 0; faults = 0 }
+
+-- the sink is full, or its next call is one of those that are to fail
+abbrev pub SinkFails : SinkState → Type 0
+SinkFails s = (s.room ≡ 0) ⊎ Contains s.failing (counted s.calls)
+
+-- how many bytes of a piece a call takes
+abbrev pub taken_count : SinkState → List ℕ → ℕ
+taken_count s piece = min s.most (min (length piece) s.room)
 
 -- a call of the source that fails changes the counts alone
 abbrev pub source_failed : SourceState → SourceState

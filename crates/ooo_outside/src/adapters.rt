@@ -39,7 +39,8 @@ impl<R: Read> Source for ReadSource<R> {
 
     fn read(&mut self, into: &mut [u8]) -> Result<usize, Failed>
         ensures bound { IfOk result (λ n. n ≤ length into.new) }
-        ensures bytes { ReadConsumes (R.remaining self.old.inner) (R.remaining self.new.inner) result into.new }
+        ensures bytes { let before = R.remaining self.old.inner in
+            ReadConsumes before (R.remaining self.new.inner) result into.new }
         ensures cause { HasCause self.old.faults self.new.faults result }
 
         // The count of faults.
@@ -57,7 +58,8 @@ impl<R: Read> Source for ReadSource<R> {
 }
 
 /// A sink over a writer of std, seen as the writer and its count of faults. It tells the bytes that
-/// the writer tells. Each error counts as one fault, and so does a write that takes nothing of a piece.
+/// the writer tells. Each error counts as one fault, and so does a write that takes nothing of a
+/// piece.
 #[derive(Drop)]
 pub struct WriteSink<W> {
     inner: W,
@@ -88,7 +90,8 @@ impl<W: Write> Sink for WriteSink<W> {
     fn write(&mut self, piece: &[u8]) -> Result<usize, Failed>
         ensures bound { IfOk result (λ n. n ≤ length piece.now) }
         ensures onward { IfOk result (λ n. 0 < length piece.now → 0 < n) }
-        ensures bytes { WriteAppends (W.contents self.old.inner) (W.contents self.new.inner) result piece.now }
+        ensures bytes { let before = W.contents self.old.inner in
+            WriteAppends before (W.contents self.new.inner) result piece.now }
         ensures cause { HasCause self.old.faults self.new.faults result }
 
         // The count of faults.

@@ -1,7 +1,7 @@
-ghost use Rattle.std.specs.Prelude.{◌≡◌, ◌≤◌, ◌<◌, ◌+◌, ◌++◌, ◌⊎◌, ◌↔◌, min, [], length, take, vec_len, vec_capacity, IfOk, OnErr, IsErr, IsTrue, Contains};
+ghost use Rattle.std.specs.Prelude.{◌≡◌, ◌≤◌, ◌<◌, ◌+◌, ◌++◌, ◌↔◌, min, length, take, vec_len, vec_capacity, IfOk, OnErr, IsErr, IsTrue, Contains};
 ghost use Rattle.std.specs.Io.KnownBytes.{ReadConsumes, WriteAppends};
 ghost use Rattle.ooo_outside.specs.Causes.{HasCause};
-ghost use Rattle.ooo_outside.specs.Memory.{source_failed, source_given, sink_failed, sink_taken, counted};
+ghost use Rattle.ooo_outside.specs.Memory.{SinkFails, SourceFails, given_count, sink_failed, sink_made, sink_taken, source_failed, source_given, source_made, taken_count};
 
 use crate::count::counted;
 use crate::traits::{Failed, Sink, Source};
@@ -25,16 +25,23 @@ impl Model for MemorySource {
 
     ghost Value = { SourceState };
 
-    ghost view = { λ s. record { rest = drop s.given s.bytes.items; most = s.most; failing = s.failing.items; calls = s.calls; faults = s.faults } };
+    ghost view = { λ s. record {
+      rest = drop s.given s.bytes.items;
+      most = s.most;
+      failing = s.failing.items;
+      calls = s.calls;
+      faults = s.faults;
+    } };
 
     ghost invariant = { λ s. (s.given ≤ length s.bytes.items) × (1 ≤ s.most) };
 }
 
 impl MemorySource {
-    /// A source of these bytes. `failing` has the numbers of the calls that are to fail; the first call is number 1.
+    /// A source of these bytes. `failing` has the numbers of the calls that are to fail; the first
+    /// call is number 1.
     pub fn new(bytes: Vec<u8>, most: usize, failing: Vec<u32>) -> MemorySource
         requires { 1 ≤ most }
-        ensures { result ≡ record { rest = bytes.items; most = most; failing = failing.items; calls = 0; faults = 0 } }
+        ensures { result ≡ source_made bytes.items most failing.items }
     {
         MemorySource {
             bytes,
@@ -79,10 +86,10 @@ impl Source for MemorySource {
         ensures cause { HasCause self.old.faults self.new.faults result }
 
         // Which calls fail, and how much the others give.
-        ensures failing { IsErr result ↔ Contains self.old.failing (counted self.old.calls) }
+        ensures failing { IsErr result ↔ SourceFails self.old }
         ensures failed { OnErr result (self.new ≡ source_failed self.old) }
         ensures given { IfOk result (λ n. self.new ≡ source_given self.old n) }
-        ensures count { IfOk result (λ n. n ≡ min self.old.most (min (length into.new) (length self.old.rest))) }
+        ensures count { IfOk result (λ n. n ≡ given_count self.old into.new) }
     {
         self.calls = counted(self.calls);
         if fails(&self.failing, self.calls) {
@@ -95,7 +102,8 @@ impl Source for MemorySource {
     }
 }
 
-/// A sink in memory with room for a number of bytes, of which each call takes at most `most`, and chosen calls fail.
+/// A sink in memory with room for a number of bytes, of which each call takes at most `most`, and
+/// chosen calls fail.
 #[derive(Drop)]
 pub struct MemorySink {
     bytes: Vec<u8>,
@@ -112,13 +120,21 @@ impl Model for MemorySink {
 
     ghost Value = { SinkState };
 
-    ghost view = { λ s. record { held = s.bytes.items; room = s.room; most = s.most; failing = s.failing.items; calls = s.calls; faults = s.faults } };
+    ghost view = { λ s. record {
+      held = s.bytes.items;
+      room = s.room;
+      most = s.most;
+      failing = s.failing.items;
+      calls = s.calls;
+      faults = s.faults;
+    } };
 
     ghost invariant = { λ s. (vec_len s.bytes + s.room ≤ vec_capacity s.bytes) × (1 ≤ s.most) };
 }
 
 impl MemorySink {
-    /// An empty sink with this room. `failing` has the numbers of the calls that are to fail; the first call is number 1.
+    /// An empty sink with this room. `failing` has the numbers of the calls that are to fail; the
+    /// first call is number 1.
     pub fn make(
         alloc: Global,
         room: usize,
@@ -126,7 +142,7 @@ impl MemorySink {
         failing: Vec<u32>,
     ) -> Result<MemorySink, AllocError>
         requires { 1 ≤ most }
-        ensures { IfOk result (λ sink. sink ≡ record { held = []; room = room; most = most; failing = failing.items; calls = 0; faults = 0 }) }
+        ensures { IfOk result (λ sink. sink ≡ sink_made room most failing.items) }
     {
         Ok(MemorySink {
             bytes: Vec::with_capacity(alloc, room)?,
@@ -172,10 +188,10 @@ impl Sink for MemorySink {
         ensures cause { HasCause self.old.faults self.new.faults result }
 
         // Which calls fail, and how much the others take.
-        ensures failing { IsErr result ↔ ((self.old.room ≡ 0) ⊎ Contains self.old.failing (counted self.old.calls)) }
+        ensures failing { IsErr result ↔ SinkFails self.old }
         ensures failed { OnErr result (self.new ≡ sink_failed self.old) }
         ensures taken { IfOk result (λ n. self.new ≡ sink_taken self.old piece.now n) }
-        ensures count { IfOk result (λ n. n ≡ min self.old.most (min (length piece.now) self.old.room)) }
+        ensures count { IfOk result (λ n. n ≡ taken_count self.old piece.now) }
     {
         self.calls = counted(self.calls);
         if self.room == 0 || fails(&self.failing, self.calls) {

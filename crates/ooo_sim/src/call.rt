@@ -65,7 +65,8 @@ pub fn simulate<So: Source, Si: Sink, G: Gate>(
     sink: &mut Si,
     _gate: &G,
 ) -> Status
-    ensures written { Wrote (words_of words.now) (So.rest source.old) result (Si.held sink.old) (Si.held sink.new) }
+    ensures written { Wrote (words_of words.now) (So.rest source.old) result
+        (Si.held sink.old) (Si.held sink.new) }
     ensures taken { Took So.rest (words_of words.now) result source.old source.new }
     ensures source_fault { result ≡ Status.SourceFailed →
         Rose (So.faults source.old) (So.faults source.new) × (sink.new ≡ sink.old) }
@@ -80,11 +81,13 @@ pub fn simulate<So: Source, Si: Sink, G: Gate>(
 
 // The reply to the words, and to the text that a source gives.
 fn answer<So: Source>(alloc: Global, words: &[String], source: &mut So) -> Result<Reply, ReadError>
-    ensures reply { IfOk result (IsReplyFrom (request_of (words_of words.now)) (So.rest source.old)) }
+    ensures reply { IfOk result
+        (IsReplyFrom (request_of (words_of words.now)) (So.rest source.old)) }
     ensures own { IfOk result (λ reply. ¬ IsFailure reply.status) }
     ensures given { IfOk result (λ _. GaveFirst (bytes_wanted (request_of (words_of words.now)))
         (So.rest source.old) (So.rest source.new)) }
-    ensures untouched { bytes_wanted (request_of (words_of words.now)) ≡ 0 → source.new ≡ source.old }
+    ensures untouched { bytes_wanted (request_of (words_of words.now)) ≡ 0
+        → source.new ≡ source.old }
     ensures failed { IsErrOf result ReadError.Failed
         → Rose (So.faults source.old) (So.faults source.new) }
 {

@@ -1,4 +1,4 @@
--- Answers of a test that may want memory.
+-- Answers of a test that may run out of memory.
 use Rattle.std.proofs.Common.{◌≡◌, Bool, true, false, ◌&&◌, Option, Some, None, Result, Ok, Err, IfOk, IfSome, MatchOption, refl}
 use Rattle.std.specs.Option.{IfNone}
 

@@ -44,7 +44,7 @@ struct Walker {
 ///
 /// # Errors
 ///
-/// Only where memory is wanting.
+/// Only where memory runs out.
 pub(crate) fn run_threads(
     alloc: Global,
     functions: &[Function],

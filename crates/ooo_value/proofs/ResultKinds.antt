@@ -1,6 +1,6 @@
 -- The kind of what an operator gives.
 use Rattle.std.proofs.Common.{rules, ℕ, ℤ, refl}
-use Rattle.std.specs.Prelude.{Ok, Err, Bool, true, false, not, ◌&&◌, if◌then◌else◌, IfOk}
+use Rattle.std.specs.Prelude.{Ok, Err, Bool, true, false, if◌then◌else◌, IfOk}
 use Rattle.ooo_value.specs.declared.kinds.Kind.{Kind}
 use Rattle.ooo_value.specs.declared.kinds.Kind.TheVariants as kind
 use Rattle.ooo_value.specs.declared.operators.Fault.TheVariants as fault

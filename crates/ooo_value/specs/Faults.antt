@@ -4,7 +4,7 @@ use Rattle.std.specs.Prelude.{◌≡◌, Bool, true, false, if◌then◌else◌,
 use Rattle.ooo_value.specs.declared.operators.Op.{Op}
 use Rattle.ooo_value.specs.declared.values.Value.{Value}
 use Rattle.ooo_value.specs.Kinds.{width_of, is_signed, promoted_kind, common_kind}
-use Rattle.ooo_value.specs.Operators.{Class, Sum, Quotient, Bits, Shift, Comparison, class_of}
+use Rattle.ooo_value.specs.Operators.{Class, Sum, Quotient, Shift, class_of}
 use Rattle.ooo_value.specs.Values.{kind_of, number_of, number_in, is_in_range, is_nonzero}
 
 -- the operators that divide

@@ -52,7 +52,8 @@ pub fn conversion_is_of_the_kind(v: Value, to: Kind)
 /// A conversion to another kind than `Bool` keeps the value modulo 2 to the kind's width, and one
 /// to `Bool` keeps whether it is 0.
 pub fn conversion_is_congruent(v: Value, to: Kind)
-    ensures number { to ≢ kind.Bool → IsCongruent (width_of to) (number_of (conversion_of v to)) (number_of v) }
+    ensures number { let z = number_of (conversion_of v to) in
+        to ≢ kind.Bool → IsCongruent (width_of to) z (number_of v) }
     ensures bool { (number_of (conversion_of v kind.Bool) ≡ pos 0) ↔ (number_of v ≡ pos 0) }
 {}
 
@@ -60,7 +61,8 @@ pub fn conversion_is_congruent(v: Value, to: Kind)
 /// converted to their common kind.
 pub fn operands_are_converted(op: Op, a: Value, b: Value)
     ensures { let k = common_kind (kind_of a) (kind_of b) in
-        IsFalse (is_shift op) → binary_of op a b ≡ binary_of op (conversion_of a k) (conversion_of b k) }
+        IsFalse (is_shift op) →
+        binary_of op a b ≡ binary_of op (conversion_of a k) (conversion_of b k) }
 {}
 
 /// Each fault of an operator comes exactly where C++ leaves the result undefined.
@@ -82,7 +84,8 @@ pub fn unsigned_never_overflows(op: Op, a: Value, b: Value)
 pub fn negation_faults(v: Value)
     ensures overflow { let least_int = neg_ℤ (pos (2 ^ 31)) in
         let least_long = neg_ℤ (pos (2 ^ 63)) in
-        (negation_of v ≡ Err fault.Overflow) ↔ ((v ≡ value.Int least_int) ⊎ (v ≡ value.Long least_long)) }
+        (negation_of v ≡ Err fault.Overflow)
+        ↔ ((v ≡ value.Int least_int) ⊎ (v ≡ value.Long least_long)) }
     ensures no_divide_by_zero { negation_of v ≢ Err fault.DivideByZero }
     ensures no_shift_range { negation_of v ≢ Err fault.ShiftRange }
     ensures no_index_range { negation_of v ≢ Err fault.IndexRange }

@@ -14,11 +14,15 @@ use crate::{
 };
 use ooo_time::{Scale, Time};
 use sqlite_items::Items;
+use std::cmp::Ordering;
 use std::process::Abort;
 use std::test::Fail;
 
 /// An operator, its operands, and its answer.
 pub type BinaryRow = (Op, Value, Value, Result<Value, Fault>);
+
+/// Two values, and their order in the common kind.
+pub type OrderRow = (Value, Value, Ordering);
 
 /// A value, what `-` and `~` give for it, and whether it is not 0.
 pub type UnaryRow = (Value, Result<Value, Fault>, Value, bool);
@@ -56,12 +60,23 @@ fn bits_are_those_of_the_compiler(rt: HostRuntime) {
 
 #[test]
 fn comparisons_are_those_of_the_compiler(rt: HostRuntime) {
-    check_binary(&rt, &comparisons::EQUAL);
-    check_binary(&rt, &comparisons::NOT_EQUAL);
-    check_binary(&rt, &comparisons::LESS);
-    check_binary(&rt, &comparisons::LESS_OR_EQUAL);
-    check_binary(&rt, &comparisons::GREATER);
-    check_binary(&rt, &comparisons::GREATER_OR_EQUAL);
+    for (a, b, order) in &comparisons::ORDERS {
+        let answers = [
+            (Op::Equal, *order == Ordering::Equal),
+            (Op::NotEqual, *order != Ordering::Equal),
+            (Op::Less, *order == Ordering::Less),
+            (Op::LessOrEqual, *order != Ordering::Greater),
+            (Op::Greater, *order == Ordering::Greater),
+            (Op::GreaterOrEqual, *order != Ordering::Less),
+        ];
+        for (op, holds) in answers {
+            assert_eq!(rt;
+                binary(op, *a, *b),
+                Ok(Value::Bool(holds)),
+                "{op:?} of {a:?} and {b:?}"
+            );
+        }
+    }
 }
 
 #[test]

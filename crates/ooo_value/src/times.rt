@@ -1,4 +1,4 @@
-ghost use Rattle.std.specs.Prelude.{◌≡◌, ◌≤ℤ◌, ◌<ℤ◌, pos, IfSome, IfNone};
+ghost use Rattle.std.specs.Prelude.{◌≡◌, ◌<ℤ◌, pos, IfSome, IfNone};
 ghost use Rattle.ooo_value.specs.Times.{time_of};
 ghost use Rattle.ooo_value.specs.Values.{number_of};
 

@@ -6,6 +6,7 @@
 // No undefined operation is executed: each is told apart by wider arithmetic first.
 #include <cstdint>
 #include <cstdio>
+#include <cstdlib>
 #include <limits>
 #include <set>
 #include <string>
@@ -100,7 +101,7 @@ template <class A, class B> Outcome shift(char sign, A a, B b) {
 
 const std::vector<std::string> names = {
     "Add", "Subtract", "Multiply", "Divide", "Remainder", "BitAnd", "BitOr", "BitXor",
-    "ShiftLeft", "ShiftRight", "Equal", "NotEqual", "Less", "LessOrEqual", "Greater", "GreaterOrEqual",
+    "ShiftLeft", "ShiftRight",
 };
 
 template <class A, class B> Outcome outcome(const std::string &op, A a, B b) {
@@ -114,12 +115,7 @@ template <class A, class B> Outcome outcome(const std::string &op, A a, B b) {
     if (op == "BitXor") return given(a ^ b);
     if (op == "ShiftLeft") return shift('<', a, b);
     if (op == "ShiftRight") return shift('>', a, b);
-    if (op == "Equal") return given(a == b);
-    if (op == "NotEqual") return given(a != b);
-    if (op == "Less") return given(a < b);
-    if (op == "LessOrEqual") return given(a <= b);
-    if (op == "Greater") return given(a > b);
-    return given(a >= b);
+    return given(a < b);  // Less, of the chosen cases
 }
 
 // ---- the tables
@@ -154,24 +150,43 @@ unsigned random_below(unsigned n) {
     return (seed >> 8) % n;
 }
 
-// One row of each outcome that the edges of two kinds have, and one more.
-template <class A, class B> void pair_rows(const std::string &op) {
+// Calls `visit` for the edges of two kinds in a random order.
+template <class A, class B, class F> void shuffled(F visit) {
     std::vector<std::pair<A, B>> pairs;
     for (A a : edges<A>())
         for (B b : edges<B>()) pairs.push_back({a, b});
-    std::set<std::string> seen;
-    bool more = true;
     while (!pairs.empty()) {
         unsigned at = random_below(pairs.size());
         auto [a, b] = pairs[at];
         pairs.erase(pairs.begin() + at);
-        Outcome o = outcome(op, a, b);
-        std::string sort = o.value == "Bool(true)" || o.value == "Bool(false)" ? o.value : o.fault;
-        bool fresh = seen.insert(sort).second;
-        if (!fresh && !(more && o.fault.empty())) continue;
-        if (!fresh) more = false;
-        binary_row(op, a, b);
+        visit(a, b);
     }
+}
+
+// One row for each fault that the edges of two kinds meet, and one for a value.
+template <class A, class B> void pair_rows(const std::string &op) {
+    std::set<std::string> seen;
+    shuffled<A, B>([&](A a, B b) {
+        if (seen.insert(outcome(op, a, b).fault).second) binary_row(op, a, b);
+    });
+}
+
+// One row for each order of the edges of two kinds, by all six comparisons.
+template <class A, class B> void order_rows() {
+    std::set<std::string> seen;
+    shuffled<A, B>([&](A a, B b) {
+        const char *order = a < b ? "Less" : a == b ? "Equal" : "Greater";
+        if ((a != b) == (a == b) || (a <= b) == (a > b) || (a >= b) == (a < b)) std::abort();
+        if (seen.insert(order).second) rows.push_back("(" + show(a) + ", " + show(b) + ", " + order + ")");
+    });
+}
+
+template <class A> void left_order_rows() {
+    order_rows<A, Bool>();
+    order_rows<A, Int>();
+    order_rows<A, Uint>();
+    order_rows<A, Long>();
+    order_rows<A, Ulong>();
 }
 
 template <class A> void left_rows(const std::string &op) {
@@ -280,8 +295,10 @@ int main(int argc, char **argv) {
     operators(3, 5);
     file("bits", "Operators on bits, and shifts.", binary_uses);
     operators(5, 10);
-    file("comparisons", "Comparisons.", binary_uses);
-    operators(10, 16);
+    file("comparisons", "Comparisons.",
+         "use super::OrderRow;\nuse crate::Value::{Bool, Int, Long, Uint, Ulong};\nuse std::cmp::Ordering::{Equal, Greater, Less};\n");
+    left_order_rows<Bool>(); left_order_rows<Int>(); left_order_rows<Uint>(); left_order_rows<Long>(); left_order_rows<Ulong>();
+    flush("ORDERS", "OrderRow", "The edges of each two kinds, and their order in the common kind.");
     file("single", "Operators on one value.",
          "use super::UnaryRow;\nuse crate::Fault::Overflow;\nuse crate::Value::{Bool, Int, Long, Uint, Ulong};\n");
     unary_rows<Bool>(); unary_rows<Int>(); unary_rows<Uint>(); unary_rows<Long>(); unary_rows<Ulong>();
