@@ -1,32 +1,37 @@
-//! The simulator as a program: a model text on standard input, its report on standard output.
+//! The simulator as a program: a model text on standard input, its report on standard output, and what is wrong in
+//! words on standard error.
 #![tactic(auto)]
+
+mod first_line;
+mod perform;
+mod remarks;
 
 ghost use Rattle.std.specs.Prelude.{◌≡◌, ◌≢◌};
 ghost use Rattle.std.specs.IoError.{error_kind};
 ghost use Rattle.std.specs.declared.io.ErrorKind.TheVariants.{InvalidData};
+ghost use Rattle.ooo_sim.specs.declared.status.Status.TheVariants.{WordsRefused, OutOfMemory};
 
-use ooo_outside::{OpenGate, ReadSource, WriteSink};
-use ooo_sim::simulate;
-use std::alloc::Global;
+use crate::perform::perform;
+use crate::remarks::{remark_terminal, remark_unread};
+use ooo_sim::Status;
+use std::io::IsTerminal;
 use std::process::ExitCode;
 use std::{env, io};
 
-// The status for words that the program can't read, and for want of memory.
-const UNREAD_WORDS: u8 = 2;
-
-const NO_MEMORY: u8 = 6;
-
 /// Runs the command that the words give, and ends with its status.
 fn main(rt: HostRuntime) -> ExitCode {
-    let mut source = ReadSource::new(rt.stdin());
-    let mut sink = WriteSink::new(rt.stdout());
     match words(&rt) {
         Ok(words) => {
-            let alloc = rt.alloc();
-            let status = simulate(&rt, alloc, &words, &mut source, &mut sink, &OpenGate);
-            ExitCode::from(status)
+            if rt.stdin().is_terminal() {
+                remark_terminal(&rt, &words);
+            }
+            ExitCode::from(perform(&rt, rt.alloc(), &words, rt.stdin(), &mut rt.stdout()))
         }
-        Err(error) => ExitCode::from(failure(&error)),
+        Err(error) => {
+            let status = unread(&error);
+            remark_unread(&rt, status);
+            ExitCode::from(status.number())
+        }
     }
 }
 
@@ -39,13 +44,13 @@ fn words(rt: &HostRuntime) -> io::Result<Vec<String>> {
     Ok(words)
 }
 
-/// The status where the words can't be had: one is no UTF-8, or memory is wanting.
-fn failure(error: &io::Error) -> u8
-    ensures words { error_kind error.now ≡ InvalidData → result ≡ 2 }
-    ensures memory { error_kind error.now ≢ InvalidData → result ≡ 6 }
+/// The status where the words can't be had: one is no UTF-8, or memory ran out.
+fn unread(error: &io::Error) -> Status
+    ensures words { error_kind error.now ≡ InvalidData → result ≡ WordsRefused }
+    ensures memory { error_kind error.now ≢ InvalidData → result ≡ OutOfMemory }
 {
     match error.kind() {
-        io::ErrorKind::InvalidData => UNREAD_WORDS,
-        _ => NO_MEMORY,
+        io::ErrorKind::InvalidData => Status::WordsRefused,
+        _ => Status::OutOfMemory,
     }
 }

@@ -1,0 +1,100 @@
+use ooo_messages::{lexer_breach, lexer_reason, words_reason};
+use ooo_sim::{MOST_BYTES, Status};
+use ooo_words::{Command, WordsError, read};
+use std::alloc::Global;
+
+/// Says that a model is read from the terminal, where the words may ask for that.
+pub fn remark_terminal(rt: &impl Eprint, words: &[String]) {
+    if words.first().is_some_and(|word| word.as_str() == "plain") {
+        say(
+            rt,
+            "reading a model from standard input, up to its end (Ctrl-D)",
+        );
+    }
+}
+
+/// Says in words why there is no report, or not all of it: by the status, the words, and the first bytes that were
+/// written.
+pub fn remark(rt: &impl Eprint, alloc: Global, status: Status, words: &[String], line: &[u8]) {
+    match status {
+        Status::Done | Status::Faulted => {}
+        Status::WordsRefused => remark_words(rt, &read(alloc, words)),
+        Status::TextRefused => remark_text(rt, line),
+        Status::SourceFailed => say(rt, "standard input can't be read"),
+        Status::SinkFailed => say(rt, "standard output can't be written"),
+        Status::OutOfMemory => say(rt, "out of memory"),
+        Status::LimitReached => say(
+            rt,
+            "the run reached a limit, which the report's last line names",
+        ),
+        Status::SourceTooLong => {
+            let _ = eprintln!(rt; "peljouk: the text has more than {MOST_BYTES} bytes");
+        }
+    }
+}
+
+/// Says why the words could not be had.
+pub fn remark_unread(rt: &impl Eprint, status: Status) {
+    match status {
+        Status::WordsRefused => {
+            say(rt, "the words are refused: one of them is no UTF-8");
+            say_use(rt);
+        }
+        _ => say(rt, "out of memory"),
+    }
+}
+
+fn remark_words(rt: &impl Eprint, asked: &Result<Command, WordsError>) {
+    match asked {
+        Err(WordsError::Refused(breach, word)) => {
+            let reason = words_reason(*breach);
+            match word {
+                Some(word) => match str::from_utf8(word.as_bytes()) {
+                    Ok(word) => {
+                        let _ = eprintln!(rt; "peljouk: the words are refused: {reason}: {word}");
+                    }
+                    Err(_) => say_refused(rt, reason),
+                },
+                None => say_refused(rt, reason),
+            }
+        }
+        _ => say_refused(rt, "what they ask for isn't built yet"),
+    }
+    say_use(rt);
+}
+
+fn say_refused(rt: &impl Eprint, reason: &str) {
+    let _ = eprintln!(rt; "peljouk: the words are refused: {reason}");
+}
+
+// A refusal's line is `refused lexer NAME LINE:COLUMN` or `refused form NotBuilt`.
+fn remark_text(rt: &impl Eprint, line: &[u8]) {
+    match str::from_utf8(line).ok().and_then(lexer_refusal) {
+        Some((reason, line, column)) => {
+            let _ = eprintln!(rt;
+                "peljouk: the text is refused: line {line}, column {column}: {reason}"
+            );
+        }
+        None => say(
+            rt,
+            "the text is refused: it is no model of the form that is built so far",
+        ),
+    }
+}
+
+// The reason, the line and the column that a refusal of the lexer names.
+fn lexer_refusal(line: &str) -> Option<(&'static str, &str, &str)> {
+    let (name, place) = line.strip_prefix("refused lexer ")?.split_once(' ')?;
+    let (line, column) = place.strip_suffix("\n")?.split_once(':')?;
+    let breach = lexer_breach(name)?;
+    Some((lexer_reason(breach), line, column))
+}
+
+fn say(rt: &impl Eprint, text: &str) {
+    let _ = eprintln!(rt; "peljouk: {text}");
+}
+
+// A line for each command that is built.
+fn say_use(rt: &impl Eprint) {
+    let _ = eprintln!(rt; "usage: peljouk plain [--stop TIME] <model.cpp");
+}
