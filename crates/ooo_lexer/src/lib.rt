@@ -5,6 +5,11 @@
 //! `specs/Texts.antt` say what each of these is, `specs/Pieces.antt` what it is to cut a source,
 //! `specs/Breaches.antt` why a source can't be cut, and `specs/Positions.antt` where a token stands. The code goes
 //! over the source once, from left to right, and looks at no byte more than a few times.
+//!
+//! Proved: [`lex`] answers the tokens of the one cutting of the source, with their positions and with spans in order, or
+//! the source's one breach exactly where it has one, or that memory ran out. [`read_number`] answers the kind and the
+//! value of a number's bytes, or none exactly where they are no number or too wide. [`unescape`] appends a text's value,
+//! or leaves the vector as it was. Module [`law`] has what holds of the definitions.
 #![tactic(auto)]
 
 mod breach;

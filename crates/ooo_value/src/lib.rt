@@ -1,6 +1,9 @@
 //! The five kinds of values of the simulated language and their arithmetic, as C++ means it on a
 //! machine of two's complement with an `int` of 32 and a `long long` of 64 bits. Small types of a
 //! model's parts stand here too, for the crates above. Only `append`, which prints a value, takes memory.
+//!
+//! Proved: [`common`], [`convert`], [`binary`], [`negate`], [`invert`] and [`truth`] are the definition's arithmetic,
+//! value and run fault in every case; module [`law`] says when each fault comes, and ties the definition to C++.
 #![tactic(auto)]
 
 mod arithmetic;

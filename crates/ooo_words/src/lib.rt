@@ -1,4 +1,7 @@
 //! The words after the program's name, read as a command.
+//!
+//! Proved: [`read`] answers the command of the words, or their first breach from left to right with its word, and
+//! [`refusal`] is its line. Module [`law`] says that neither the form nor the order of settings matters.
 #![tactic(auto)]
 
 mod breach;
