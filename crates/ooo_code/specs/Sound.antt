@@ -28,7 +28,7 @@ use Rattle.ooo_code.specs.Segments.{is_wait, successors, followers, IsNodeOf}
 -- ---- kinds
 
 -- the kinds of what an expression may name
-pub record Names : Type 0 where
+pub record Scope : Type 0 where
   pub slots : List Kind
   pub variables : List BoundVariable
   pub channels : List BoundChannel
@@ -78,7 +78,7 @@ of_two f (Some j) (Some k) = Some (f j k)
 of_two f _ _ = None
 
 -- the kind of each form of expression, by those of its parts
-abbrev pub kind_step : Names → NodeExpr-F Typed → Typed
+abbrev pub kind_step : Scope → NodeExpr-F Typed → Typed
 kind_step names (layer.Constant v) = Some (kind_of v)
 kind_step names (layer.Slot n) = slice_get names.slots n
 kind_step names (layer.Variable x) = variable_kind (slice_get names.variables x)
@@ -98,13 +98,13 @@ kind_step names (layer.Or a b) = if_typed a (if_typed b (Some value_kind.Bool))
 kind_step names (layer.Choose c a b) = if_typed c (both_kind a b)
 
 -- the kind of an expression, where all that it names is there and its kinds agree
-unfoldable pub expression_kind : Names → NodeExpr → Typed
+unfoldable pub expression_kind : Scope → NodeExpr → Typed
 expression_kind names e = fold-NodeExpr Typed (kind_step names) e
 
 -- ---- numbers in range
 
 -- a constant time is at most the greatest one
-abbrev pub FitsTime : Names → NodeTime → Type 0
+abbrev pub FitsTime : Scope → NodeTime → Type 0
 FitsTime names (time.Fixed t) = t.0 ≤ greatest_time
 FitsTime names (time.Amount e scale) = IsSome (expression_kind names e)
 
@@ -114,12 +114,12 @@ IsOwn (Some event.Own) = Unit {0}
 IsOwn _ = ⊥
 
 -- what a wait names is there
-pub record FitsWait (names : Names) (events : List BoundEvent) (wait : NodeWait) : Type 0 where
+pub record FitsWait (names : Scope) (events : List BoundEvent) (wait : NodeWait) : Type 0 where
   pub time : IfSome wait.time (FitsTime names)
   pub events_are : All (λ e. e < length events) wait.events
 
 -- all that a node names is there, and its kinds agree
-abbrev pub FitsNode : Names → List BoundEvent → NodeKind → Type 0
+abbrev pub FitsNode : Scope → List BoundEvent → NodeKind → Type 0
 FitsNode names events (kind.Set n e) = IsSome (slice_get names.slots n) × (expression_kind names e ≡ slice_get names.slots n)
 FitsNode names events (kind.Store x None e) =
     let k = variable_kind (slice_get names.variables x) in IsSome k × (expression_kind names e ≡ k)
@@ -182,12 +182,12 @@ HasStatic sensitive (kind.Trigger w) = IsTrue w.is_static → w.events ≡ sensi
 HasStatic sensitive (kind.Wait w) = IsTrue w.is_static → w.events ≡ sensitive
 HasStatic sensitive _ = Unit {0}
 
-abbrev pub names_of : Design → Proc → Names
-names_of design process = record { slots = process.slots; variables = design.variables; channels = design.channels }
+abbrev pub scope_of : Design → Proc → Scope
+scope_of design process = record { slots = process.slots; variables = design.variables; channels = design.channels }
 
 -- a node of a process
 pub record FitsProcessNode (design : Design) (process : Proc) (number : ℕ) (node : Node) : Type 0 where
-  pub names : FitsNode (names_of design process) design.events node.kind
+  pub names : FitsNode (scope_of design process) design.events node.kind
   pub own : All (IsNodeOf process) (followers node)
   pub static : HasStatic process.sensitive node.kind
   pub method : process.kind ≡ Method → is_wait node ≡ false

@@ -3,3 +3,5 @@
 #![tactic(auto)]
 
 pub mod law;
+#[cfg(test)]
+mod tests;
