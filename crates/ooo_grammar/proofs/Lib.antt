@@ -1,0 +1,9 @@
+pub mod Good
+pub mod Codes
+pub mod Any
+pub mod Ends
+pub mod Fronts
+pub mod Agree
+pub mod Passes
+pub mod Whole
+pub mod Once

@@ -1,0 +1,16 @@
+pub mod Numbers
+pub mod Sets
+pub mod Forms
+pub mod Names
+pub mod Codes
+pub mod Combinators
+pub mod Lexis
+pub mod Expressions
+pub mod Times
+pub mod Statements
+pub mod Members
+pub mod Units
+pub mod Rules
+pub mod Roots
+pub mod Readings
+pub mod Laws

@@ -1,0 +1,4 @@
+//! The grammar as data, and what holds of it.
+#![tactic(auto)]
+
+pub mod law;
