@@ -1,5 +1,5 @@
 -- Words, types and numbers: what is made of one token or of a few.
-use Rattle.std.specs.Prelude.{true, false, ℕ, List, [], ◌∷◌, Option, Some, None, refl, slice_range, length, ◌-◌}
+use Rattle.std.specs.Prelude.{true, false, ℕ, List, [], ◌∷◌, Option, Some, None, refl, take, length, ◌-◌}
 use Rattle.ooo_lexer.specs.Texts.{unescaped}
 use Rattle.ooo_syntax.specs.declared.terminal.Terminal.TheVariants as terminal
 use Rattle.ooo_syntax.specs.declared.symbol.Symbol.{Symbol}
@@ -23,7 +23,8 @@ number_of k = record { value = k.value; position = k.position }
 
 -- what stands between a text's quotes
 abbrev pub inside_quotes : List ℕ → List ℕ
-inside_quotes bs = slice_range bs 1 (length bs - 1)
+inside_quotes [] = []
+inside_quotes (b ∷ bs) = take (length bs - 1) bs
 
 abbrev pub text_of : Symbol → Text
 text_of k = record { value = unescaped (inside_quotes k.text.now); position = k.position }

@@ -13,4 +13,6 @@ pub mod Units
 pub mod Rules
 pub mod Roots
 pub mod Readings
+pub mod Gives
+pub mod Steps
 pub mod Laws
