@@ -7,3 +7,9 @@ pub mod Agree
 pub mod Passes
 pub mod Whole
 pub mod Once
+pub mod LexisLines
+pub mod ExpressionsLines
+pub mod TimesLines
+pub mod StatementsLines
+pub mod MembersLines
+pub mod UnitsLines

@@ -189,6 +189,9 @@ value = outermost whole_expression
 unfoldable pub inner_value : Code Expr begins_expr (always after_expr) false
 inner_value = outermost inner
 
--- the level `sum`, whose operators are counted
+-- the level `sum`, which is the outermost one of its operators
+unfoldable pub counted_sum : Code Expr begins_expr (always after_sum) false
+counted_sum = within _ _ (levels false sum_levels unary unary refl) refl (λ _. refl)
+
 unfoldable pub sum : Code Expr begins_expr (always after_sum) false
-sum = within _ _ (outermost (levels false sum_levels unary unary refl)) refl (λ _. refl)
+sum = outermost counted_sum

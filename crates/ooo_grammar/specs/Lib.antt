@@ -16,3 +16,10 @@ pub mod Readings
 pub mod Gives
 pub mod Steps
 pub mod Laws
+pub mod Shapes
+pub mod LexisLines
+pub mod ExpressionsLines
+pub mod TimesLines
+pub mod StatementsLines
+pub mod MembersLines
+pub mod UnitsLines

@@ -1,9 +1,9 @@
 -- How the answer of a part is an answer of the whole.
-use Rattle.std.proofs.Common.{Option, None, ◌≡◌, arith, if◌then◌else◌, Bool, true, false, ℕ, zero, suc, ◌-◌, List, Result, refl, sym, ap, ◌∙◌, subst}
+use Rattle.std.proofs.Common.{◌≡◌, arith, if◌then◌else◌, Bool, true, false, ℕ, zero, suc, ◌-◌, List, Result, refl, sym, ap, ◌∙◌, subst}
 use Rattle.ooo_syntax.specs.declared.symbol.Symbol.{Symbol}
 use Rattle.ooo_grammar.specs.declared.limits.ReadError.{ReadError}
 use Rattle.ooo_grammar.specs.declared.limits.ReadError.TheVariants as error
-use Rattle.ooo_grammar.specs.Forms.{Outcome, Got, Bad, Deep, Reader, after, nothing_r, mapped_r, begins_with, repeats_in}
+use Rattle.ooo_grammar.specs.Forms.{Outcome, Got, Bad, Deep, Reader, after, begins_with, repeats_in}
 use Rattle.ooo_grammar.specs.Gives.{Stops, Gives, reads_at, room_at}
 use Rattle.ooo_grammar.specs.declared.limits.Limits.{Limits}
 use Rattle.ooo_grammar.specs.Readings.{Room, enter, reader}

@@ -1,6 +1,12 @@
 //! Laws of the grammar. Each function does nothing, and its contract is the law.
 
 ghost use Rattle.ooo_grammar.specs.Laws.{Decided, FrontsAreBeginnings, HasNoTree, HasOneTree, IsRefusedOnce, RefusesFirst};
+ghost use Rattle.ooo_grammar.specs.LexisLines.{LexisLines};
+ghost use Rattle.ooo_grammar.specs.ExpressionsLines.{ExpressionsLines};
+ghost use Rattle.ooo_grammar.specs.TimesLines.{TimesLines};
+ghost use Rattle.ooo_grammar.specs.StatementsLines.{StatementsLines};
+ghost use Rattle.ooo_grammar.specs.MembersLines.{MembersLines};
+ghost use Rattle.ooo_grammar.specs.UnitsLines.{UnitsLines};
 
 /// No list of tokens has two trees.
 pub fn one_tree()
@@ -24,4 +30,14 @@ pub fn refused_token()
 /// is the refused token, and what it finds too deep is the first token that goes beyond the limits.
 pub fn readers()
     ensures { Decided }
+{}
+
+/// Each production prints as its line of EBNF.
+pub fn lines()
+    ensures words { LexisLines }
+    ensures expressions { ExpressionsLines }
+    ensures times { TimesLines }
+    ensures statements { StatementsLines }
+    ensures modules { MembersLines }
+    ensures units { UnitsLines }
 {}
