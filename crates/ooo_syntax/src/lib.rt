@@ -13,6 +13,8 @@ mod stat;
 mod symbol;
 mod table;
 mod terminal;
+#[cfg(test)]
+mod tests;
 mod unit;
 mod words;
 

@@ -96,7 +96,7 @@ pub struct Channels {
 /// `Child a , b { "b" } ;`
 #[derive(Drop)]
 pub struct Children {
-    pub module: Word,
+    pub module_name: Word,
     pub parts: Items<Part>,
 }
 

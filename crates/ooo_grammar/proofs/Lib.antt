@@ -1,0 +1,15 @@
+pub mod Good
+pub mod Codes
+pub mod Any
+pub mod Ends
+pub mod Fronts
+pub mod Agree
+pub mod Passes
+pub mod Whole
+pub mod Once
+pub mod LexisLines
+pub mod ExpressionsLines
+pub mod TimesLines
+pub mod StatementsLines
+pub mod MembersLines
+pub mod UnitsLines
