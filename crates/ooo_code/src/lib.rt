@@ -19,3 +19,6 @@ pub use expression::NodeExpr;
 pub use limits::Limits;
 pub use node::{Node, NodeKind, NodeTime, NodeWait};
 pub use segment::{Segment, SegmentEntry};
+
+#[cfg(test)]
+mod tests;
