@@ -99,7 +99,10 @@ fn each_failing_read_gives_status_4_and_writes_nothing(rt: HostRuntime) -> Resul
             ..PLENTY
         };
         let outcome = call(rt.alloc(), "plain", model(rt.alloc())?, feed)?;
-        assert!(rt; outcome.is(Status::SourceFailed, b""), "read {failing_read}");
+        assert!(rt;
+            outcome.is(Status::SourceFailed, b""),
+            "read {failing_read}"
+        );
     }
     let feed = Feed {
         most_read: 16,

@@ -461,17 +461,17 @@ fn read_inside<'a>(
 #[tactic(auto, using(ooo_grammar::specs::Steps::steps), unfolding(ooo_grammar::specs::Expressions::cast_to))]
 fn read_cast_to<'a>(
     alloc: Global,
-    open: Symbol<'a>,
+    opening: Symbol<'a>,
     form: TypeName,
     tokens: &'a [Symbol<'a>],
     limits: Limits,
 ) -> Read<'a, Expr>
-    ensures { Gives (reads_at limits (cast_to open.entry form) tokens.now) result }
+    ensures { Gives (reads_at limits (cast_to opening.entry form) tokens.now) result }
 {
     let (_, rest) = one(tokens, Terminal::Close, limits)?;
     let (of, rest) = read_operand(alloc, rest, limits)?;
     Ok((
-        Expr::Cast(open.position, form, Boxed::new(alloc, of)?),
+        Expr::Cast(opening.position, form, Boxed::new(alloc, of)?),
         rest,
     ))
 }
@@ -522,16 +522,16 @@ fn read_long_inside<'a>(
 #[tactic(auto, using(ooo_grammar::specs::Steps::steps), unfolding(ooo_grammar::specs::Expressions::conversion_first))]
 fn read_conversion_first<'a>(
     alloc: Global,
-    open: Symbol<'a>,
+    opening: Symbol<'a>,
     form: TypeName,
     tokens: &'a [Symbol<'a>],
     limits: Limits,
 ) -> Read<'a, Expr>
-    ensures { Gives (reads_at limits (conversion_first open.entry form) tokens.now) result }
+    ensures { Gives (reads_at limits (conversion_first opening.entry form) tokens.now) result }
 {
     let (of, rest) = read_inside(alloc, form, tokens, limits)?;
     let (_, rest) = one(rest, Terminal::Close, limits)?;
-    Ok((Expr::Paren(open.position, Boxed::new(alloc, of)?), rest))
+    Ok((Expr::Paren(opening.position, Boxed::new(alloc, of)?), rest))
 }
 
 // What follows `(` and a type of one word.
@@ -539,17 +539,17 @@ fn read_conversion_first<'a>(
 #[tactic(auto, using(ooo_grammar::specs::Steps::steps), unfolding(ooo_grammar::specs::Expressions::after_short_type))]
 fn read_after_short_type<'a>(
     alloc: Global,
-    open: Symbol<'a>,
+    opening: Symbol<'a>,
     form: TypeName,
     tokens: &'a [Symbol<'a>],
     limits: Limits,
 ) -> Read<'a, Expr>
-    ensures { Gives (reads_at limits (after_short_type open.entry form) tokens.now) result }
+    ensures { Gives (reads_at limits (after_short_type opening.entry form) tokens.now) result }
 {
     if starts(tokens, Terminal::Close) {
-        return read_cast_to(alloc, open, form, tokens, limits);
+        return read_cast_to(alloc, opening, form, tokens, limits);
     }
-    read_conversion_first(alloc, open, form, tokens, limits)
+    read_conversion_first(alloc, opening, form, tokens, limits)
 }
 
 // A cast, after `(` and the words up to the first `long`.
@@ -557,17 +557,17 @@ fn read_after_short_type<'a>(
 #[tactic(auto, using(ooo_grammar::specs::Steps::steps), unfolding(ooo_grammar::specs::Expressions::long_cast))]
 fn read_long_cast<'a>(
     alloc: Global,
-    open: Symbol<'a>,
+    opening: Symbol<'a>,
     word: Symbol<'a>,
     bare: TypeForm,
     full: TypeForm,
     tokens: &'a [Symbol<'a>],
     limits: Limits,
 ) -> Read<'a, Expr>
-    ensures { Gives (reads_at limits (long_cast open.entry word.entry bare full) tokens.now) result }
+    ensures { Gives (reads_at limits (long_cast opening.entry word.entry bare full) tokens.now) result }
 {
     let (form, rest) = read_long_inside(bare, full, tokens, limits)?;
-    read_cast_to(alloc, open, named_type(word, form), rest, limits)
+    read_cast_to(alloc, opening, named_type(word, form), rest, limits)
 }
 
 // What follows `(` and `unsigned`.
@@ -575,18 +575,18 @@ fn read_long_cast<'a>(
 #[tactic(auto, using(ooo_grammar::specs::Steps::steps), unfolding(ooo_grammar::specs::Expressions::after_unsigned_cast))]
 fn read_after_unsigned_cast<'a>(
     alloc: Global,
-    open: Symbol<'a>,
+    opening: Symbol<'a>,
     word: Symbol<'a>,
     tokens: &'a [Symbol<'a>],
     limits: Limits,
 ) -> Read<'a, Expr>
-    ensures { Gives (reads_at limits (after_unsigned_cast open.entry word.entry) tokens.now) result }
+    ensures { Gives (reads_at limits (after_unsigned_cast opening.entry word.entry) tokens.now) result }
 {
     if starts(tokens, Terminal::Int) {
         let (_, rest) = one_inside(tokens, Terminal::Int, limits)?;
         return read_cast_to(
             alloc,
-            open,
+            opening,
             named_type(word, TypeForm::UnsignedInt),
             rest,
             limits,
@@ -596,7 +596,7 @@ fn read_after_unsigned_cast<'a>(
         let (_, rest) = one_inside(tokens, Terminal::Long, limits)?;
         return read_long_cast(
             alloc,
-            open,
+            opening,
             word,
             TypeForm::UnsignedLongLong,
             TypeForm::UnsignedLongLongInt,
@@ -606,7 +606,7 @@ fn read_after_unsigned_cast<'a>(
     }
     read_after_short_type(
         alloc,
-        open,
+        opening,
         named_type(word, TypeForm::Unsigned),
         tokens,
         limits,
@@ -626,15 +626,15 @@ fn read_plain_type_inside<'a>(tokens: &'a [Symbol<'a>], limits: Limits) -> Read<
 #[tactic(auto, using(ooo_grammar::specs::Steps::steps), unfolding(ooo_grammar::specs::Expressions::parenthesis))]
 fn read_parenthesis<'a>(
     alloc: Global,
-    open: Symbol<'a>,
+    opening: Symbol<'a>,
     tokens: &'a [Symbol<'a>],
     limits: Limits,
 ) -> Read<'a, Expr>
-    ensures { Gives (reads_at limits (parenthesis open.entry) tokens.now) result }
+    ensures { Gives (reads_at limits (parenthesis opening.entry) tokens.now) result }
 {
     let (of, rest) = read_inner_plain(alloc, tokens, limits)?;
     let (_, rest) = one(rest, Terminal::Close, limits)?;
-    Ok((Expr::Paren(open.position, Boxed::new(alloc, of)?), rest))
+    Ok((Expr::Paren(opening.position, Boxed::new(alloc, of)?), rest))
 }
 
 // What follows `(`.
@@ -642,25 +642,25 @@ fn read_parenthesis<'a>(
 #[tactic(auto, using(ooo_grammar::specs::Steps::steps), unfolding(ooo_grammar::specs::Expressions::after_open))]
 fn read_after_open<'a>(
     alloc: Global,
-    open: Symbol<'a>,
+    opening: Symbol<'a>,
     tokens: &'a [Symbol<'a>],
     limits: Limits,
 ) -> Read<'a, Expr>
-    ensures { Gives (reads_at limits (after_open open.entry) tokens.now) result }
+    ensures { Gives (reads_at limits (after_open opening.entry) tokens.now) result }
 {
     if begins_with_plain_type(tokens) {
         let (form, rest) = read_plain_type_inside(tokens, limits)?;
-        return read_after_short_type(alloc, open, form, rest, limits);
+        return read_after_short_type(alloc, opening, form, rest, limits);
     }
     if starts(tokens, Terminal::Unsigned) {
         let (word, rest) = one_inside(tokens, Terminal::Unsigned, limits)?;
-        return read_after_unsigned_cast(alloc, open, word, rest, limits);
+        return read_after_unsigned_cast(alloc, opening, word, rest, limits);
     }
     if starts(tokens, Terminal::Long) {
         let (word, rest) = one_inside(tokens, Terminal::Long, limits)?;
         return read_long_cast(
             alloc,
-            open,
+            opening,
             word,
             TypeForm::LongLong,
             TypeForm::LongLongInt,
@@ -668,7 +668,7 @@ fn read_after_open<'a>(
             limits,
         );
     }
-    read_parenthesis(alloc, open, tokens, limits)
+    read_parenthesis(alloc, opening, tokens, limits)
 }
 
 // What `(` begins.
@@ -677,8 +677,8 @@ fn read_after_open<'a>(
 fn read_bracketed<'a>(alloc: Global, tokens: &'a [Symbol<'a>], limits: Limits) -> Read<'a, Expr>
     ensures { Gives (reads_at limits bracketed tokens.now) result }
 {
-    let (open, rest) = one(tokens, Terminal::Open, limits)?;
-    read_after_open(alloc, open, rest, limits)
+    let (opening, rest) = one(tokens, Terminal::Open, limits)?;
+    read_after_open(alloc, opening, rest, limits)
 }
 
 // A type of one word.

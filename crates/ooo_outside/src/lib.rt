@@ -6,11 +6,11 @@
 //! where the count of faults rose, and moves nothing then. Of those in memory, which call fails and how much each moves.
 #![tactic(auto)]
 
-pub mod adapters;
+mod adapters;
 mod count;
-pub mod gate;
-pub mod memory;
-pub mod traits;
+mod gate;
+mod memory;
+mod traits;
 
 pub use adapters::{ReadSource, WriteSink};
 pub use gate::{Gate, OpenGate};

@@ -2,7 +2,7 @@
 
 ghost use Rattle.std.specs.Prelude.{◌≡◌, All, IfOk, map};
 ghost use Rattle.ooo_lexer.specs.Spans.{IsWithin, lexeme_at};
-ghost use Rattle.ooo_threads.specs.declared.model.ThreadModel.{ThreadModel as Model};
+ghost use Rattle.ooo_threads.specs.declared.model.ThreadModel.{ThreadModel as ThreadModelSpec};
 ghost use Rattle.ooo_threads.specs.Fitting.{FitsModel};
 ghost use Rattle.ooo_threads.specs.Spelling.{spell_model};
 
@@ -51,7 +51,7 @@ pub(crate) fn read_model(
     ensures sound { IfOk result (λ m.
         (map (lexeme_at source.now) tokens.now ≡ spell_model m) × FitsModel m) }
     ensures refused { result ≡ Err FormError.NotBuilt →
-        (m : Model) → FitsModel m → map (lexeme_at source.now) tokens.now ≡ spell_model m → ⊥ }
+        (m : ThreadModelSpec) → FitsModel m → map (lexeme_at source.now) tokens.now ≡ spell_model m → ⊥ }
 {
     let mut lexemes = Lexemes::new(source, tokens);
     let module = lexemes.module(alloc)?;

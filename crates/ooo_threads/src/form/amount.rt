@@ -1,7 +1,7 @@
 ghost use Rattle.std.specs.Prelude.{◌≡◌, ◌<◌, ◌^◌, ℕ, List, ◌++◌, MatchOption, IfOk, IfErr, IsTrue, ◌↔◌, decimal};
 ghost use Rattle.ooo_lexer.specs.Pieces.{Lexeme};
-ghost use Rattle.ooo_time.specs.declared.time.Scale.{Scale as Unit};
-ghost use Rattle.ooo_threads.specs.declared.model.Amount.{Amount as Time};
+ghost use Rattle.ooo_time.specs.declared.time.Scale.{Scale as ScaleSpec};
+ghost use Rattle.ooo_threads.specs.declared.model.Amount.{Amount as AmountSpec};
 ghost use Rattle.ooo_threads.specs.Fitting.{FitsAmount};
 ghost use Rattle.ooo_threads.specs.Spelling.{scale_name, spell_amount};
 
@@ -20,7 +20,7 @@ impl<'a> Lexemes<'a> {
         ensures sound { IfOk result (λ amount.
             (self.old ≡ spell_amount amount ++ self.new) × FitsAmount amount) }
         ensures refused { result ≡ Err FormError.NotBuilt →
-            (amount : Time) (rest : List Lexeme) → FitsAmount amount →
+            (amount : AmountSpec) (rest : List Lexeme) → FitsAmount amount →
             self.old ≡ spell_amount amount ++ rest → ⊥ }
         ensures fault { IfErr result (λ e. e ≡ FormError.NotBuilt) }
     {
@@ -36,7 +36,7 @@ impl<'a> Lexemes<'a> {
 /// The time that is written by these digits and this name of a unit.
 fn amount_of(digits: &[u8], name: &[u8]) -> Option<Amount>
     ensures { MatchOption result
-        ((amount : Time) → FitsAmount amount →
+        ((amount : AmountSpec) → FitsAmount amount →
         digits.now ≡ decimal amount.count → name.now ≡ scale_name amount.scale → ⊥)
         (λ amount. (digits.now ≡ decimal amount.count) × (name.now ≡ scale_name amount.scale)
         × FitsAmount amount) }
@@ -68,7 +68,7 @@ fn count_of(digits: &[u8]) -> Option<u64>
 /// The unit of this name.
 fn scale_of(name: &[u8]) -> Option<Scale>
     ensures { MatchOption result
-        ((scale : Unit) → name.now ≡ scale_name scale → ⊥)
+        ((scale : ScaleSpec) → name.now ≡ scale_name scale → ⊥)
         (λ scale. name.now ≡ scale_name scale) }
 {
     if name == b"SC_PS".as_slice() {

@@ -1,7 +1,7 @@
 ghost use Rattle.std.specs.Prelude.{◌≡◌, ℕ, List, [], ◌∷◌, ◌++◌, IfOk};
 ghost use Rattle.ooo_lexer.specs.Pieces.{Lexeme};
 ghost use Rattle.ooo_threads.specs.declared.mark.Mark.TheVariants as mark;
-ghost use Rattle.ooo_threads.specs.declared.model.Function.{Function as Member};
+ghost use Rattle.ooo_threads.specs.declared.model.Function.{Function as FunctionSpec};
 ghost use Rattle.ooo_threads.specs.declared.model.ThreadModel.{ThreadModel};
 ghost use Rattle.ooo_threads.specs.Fitting.{FitStatements, FitFunctions};
 ghost use Rattle.ooo_threads.specs.Marks.{lexeme_of};
@@ -50,7 +50,7 @@ impl<'a> Lexemes<'a> {
         ensures sound { IfOk result (λ function.
             (self.old ≡ spell_function function ++ self.new) × FitStatements function.body) }
         ensures refused { result ≡ Err FormError.NotBuilt →
-            (function : Member) (rest : List Lexeme) → FitStatements function.body →
+            (function : FunctionSpec) (rest : List Lexeme) → FitStatements function.body →
             self.old ≡ spell_function function ++ rest → ⊥ }
     {
         self.expect_all(&[Mark::Void])?;
@@ -66,7 +66,7 @@ impl<'a> Lexemes<'a> {
             (self.old ≡ spell_functions functions ++ (lexeme_of mark.Constructor ∷ self.new))
             × FitFunctions functions) }
         ensures refused { result ≡ Err FormError.NotBuilt →
-            (functions : List Member) (rest : List Lexeme) → FitFunctions functions →
+            (functions : List FunctionSpec) (rest : List Lexeme) → FitFunctions functions →
             self.old ≡ spell_functions functions ++ (lexeme_of mark.Constructor ∷ rest) → ⊥ }
     {
         let mut functions = Items::new(alloc);

@@ -1,8 +1,8 @@
 ghost use Rattle.std.specs.Prelude.{◌≡◌, List, [], ◌∷◌, ◌++◌, IfOk};
 ghost use Rattle.ooo_lexer.specs.Pieces.{Lexeme};
 ghost use Rattle.ooo_threads.specs.declared.mark.Mark.TheVariants as mark;
-ghost use Rattle.ooo_threads.specs.declared.model.Item.{Item as Printed};
-ghost use Rattle.ooo_threads.specs.declared.model.Statement.{Statement as Step};
+ghost use Rattle.ooo_threads.specs.declared.model.Item.{Item as ItemSpec};
+ghost use Rattle.ooo_threads.specs.declared.model.Statement.{Statement as StatementSpec};
 ghost use Rattle.ooo_threads.specs.Fitting.{FitsStatement, FitStatements};
 ghost use Rattle.ooo_threads.specs.Marks.{lexeme_of, marks};
 ghost use Rattle.ooo_threads.specs.Spelling.{spell_item, spell_items, spell_statement, spell_statements};
@@ -19,7 +19,7 @@ impl<'a> Lexemes<'a> {
     pub(crate) fn item(&mut self, alloc: Global) -> Result<Item, FormError>
         ensures sound { IfOk result (λ item. self.old ≡ spell_item item ++ self.new) }
         ensures refused { result ≡ Err FormError.NotBuilt →
-            (item : Printed) (rest : List Lexeme) → self.old ≡ spell_item item ++ rest → ⊥ }
+            (item : ItemSpec) (rest : List Lexeme) → self.old ≡ spell_item item ++ rest → ⊥ }
     {
         if self.take(Mark::Endl) {
             Ok(Item::EndLine)
@@ -36,7 +36,7 @@ impl<'a> Lexemes<'a> {
         ensures sound { IfOk result (λ item.
             self.old ≡ marks (mark.Shift ∷ []) ++ (spell_item item ++ self.new)) }
         ensures refused { result ≡ Err FormError.NotBuilt →
-            (item : Printed) (rest : List Lexeme) →
+            (item : ItemSpec) (rest : List Lexeme) →
             self.old ≡ marks (mark.Shift ∷ []) ++ (spell_item item ++ rest) → ⊥ }
     {
         self.expect_all(&[Mark::Shift])?;
@@ -48,7 +48,7 @@ impl<'a> Lexemes<'a> {
         ensures sound { IfOk result (λ items.
             self.old ≡ spell_items items ++ (lexeme_of mark.Semicolon ∷ self.new)) }
         ensures refused { result ≡ Err FormError.NotBuilt →
-            (items : List Printed) (rest : List Lexeme) →
+            (items : List ItemSpec) (rest : List Lexeme) →
             self.old ≡ spell_items items ++ (lexeme_of mark.Semicolon ∷ rest) → ⊥ }
     {
         let mut items = Items::new(alloc);
@@ -64,7 +64,7 @@ impl<'a> Lexemes<'a> {
         ensures sound { IfOk result (λ statement.
             (self.old ≡ spell_statement statement ++ self.new) × FitsStatement statement) }
         ensures refused { result ≡ Err FormError.NotBuilt →
-            (statement : Step) (rest : List Lexeme) → FitsStatement statement →
+            (statement : StatementSpec) (rest : List Lexeme) → FitsStatement statement →
             self.old ≡ spell_statement statement ++ rest → ⊥ }
     {
         if self.take(Mark::Cout) {
@@ -85,7 +85,7 @@ impl<'a> Lexemes<'a> {
             (self.old ≡ spell_statements body ++ (lexeme_of mark.BraceClose ∷ self.new))
             × FitStatements body) }
         ensures refused { result ≡ Err FormError.NotBuilt →
-            (body : List Step) (rest : List Lexeme) → FitStatements body →
+            (body : List StatementSpec) (rest : List Lexeme) → FitStatements body →
             self.old ≡ spell_statements body ++ (lexeme_of mark.BraceClose ∷ rest) → ⊥ }
     {
         let mut statements = Items::new(alloc);
