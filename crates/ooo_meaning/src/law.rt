@@ -28,7 +28,8 @@ pub fn one_run<K>()
 
 /// Two activations that do the same from related places give the same runs.
 pub fn same_runs<K, L, R: Relation<K, L>>()
-    ensures { (f : Activate K) (g : Activate L) (order : List ℕ) (bounds : LimitsSpec) (n : ℕ) (s : State K) (t : State L) →
+    ensures { (f : Activate K) (g : Activate L) (order : List ℕ) (bounds : LimitsSpec)
+        (n : ℕ) (s : State K) (t : State L) →
         AreAlike R.relates f g → SameState R.relates s t →
         run_whole f order bounds n s ≡ run_whole g order bounds n t }
 {}
