@@ -8,5 +8,5 @@ mod run;
 #[cfg(test)]
 mod tests;
 
-pub use reporting::report;
+pub use reporting::{is_named, report};
 pub use run::{End, Entry, Piece, Run, What};

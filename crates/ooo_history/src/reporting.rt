@@ -1,4 +1,4 @@
-ghost use Rattle.std.specs.Prelude.{◌≡◌, ◌++◌, ◌<◌, ◌≤◌, length, codes, IfOk, OnOk};
+ghost use Rattle.std.specs.Prelude.{◌≡◌, ◌++◌, ◌<◌, ◌≤◌, ◌↔◌, length, codes, IfOk, OnOk, IsTrue};
 ghost use Rattle.ooo_history.specs.Reporting.{closed, output_text, stamp_text, sign_of, entry_line, history_text, histories_text, place_text, end_text, report_text, IsNamed};
 
 use crate::run::{End, Entry, Piece, Run, What};
@@ -31,6 +31,17 @@ pub fn report(alloc: Global, run: &Run, names: &Names) -> Result<Vec<u8>, AllocE
     append_end(&mut text, names.processes.as_slice(), run.end)?;
     text.extend_from_slice(b"\n")?;
     Ok(text)
+}
+
+/// Whether the process that an ending speaks of, if any, has a name among these.
+pub fn is_named(end: End, processes: &[Name]) -> bool
+    ensures { IsTrue result ↔ IsNamed end processes.now }
+{
+    match end {
+        End::Fault(_, place, _) => (place.process as usize) < processes.len(),
+        End::Statements(place, _) => (place.process as usize) < processes.len(),
+        End::Time(_) | End::Idle(_) | End::Stop(_) | End::Deltas(_) => true,
+    }
 }
 
 fn append_output(text: &mut Vec<u8>, pieces: &[Piece]) -> Result<(), AllocError>

@@ -1,4 +1,4 @@
-use crate::{End, Entry, Piece, Run, What, report};
+use crate::{End, Entry, Piece, Run, What, is_named, report};
 use ooo_time::{Place, Stamp, Time};
 use ooo_value::{Fault, Name, Names, Value};
 use sqlite_items::Items;
@@ -119,7 +119,7 @@ fn ends_with(
         activations: 0,
     };
     let names = names(alloc)?;
-    assert!(rt; names.processes.len() == 1);
+    assert!(rt; is_named(end, names.processes.as_slice()));
     let text = report(alloc, &run, &names)?;
     let wanted = format!(in alloc; "== histories\n== end\n{line}")?;
     assert!(rt; text.as_slice() == wanted.as_bytes());
