@@ -1,0 +1,3 @@
+pub mod Acting
+pub mod Lending
+pub mod Running
