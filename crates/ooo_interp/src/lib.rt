@@ -10,10 +10,16 @@ mod counting;
 mod delays;
 mod doing;
 mod expressions;
+mod fifo_port;
 mod parts;
+mod ports;
 mod running;
+mod whole;
 
 pub use doing::{Activation, Halt, Made, Pause};
 pub use expressions::evaluate;
+pub use fifo_port::FifoPort;
 pub use parts::Lent;
+pub use ports::Port;
 pub use running::{End, run_nodes};
+pub use whole::Whole;
