@@ -1,0 +1,14 @@
+-- From the node at which it stands the activation comes to what it comes to from the first.
+use Rattle.std.proofs.Common.{◌≡◌}
+use Rattle.ooo_code.specs.Nodes.{steps}
+use Rattle.ooo_interp.specs.Acting.{doing_of, running_of}
+use Rattle.ooo_interp.specs.Running.{from_node, turns_of}
+use Rattle.ooo_interp.proofs.running.run_nodes.Given as goal
+
+abbrev pub invariant-turns : goal.invariant-turns
+invariant-turns g l =
+    steps l.nodes (running_of l.activation) l.statements l.first (doing_of (g.L.Lent.sight l.fn.lent) l.fn.made)
+    ≡ from_node l.nodes (running_of l.activation) l.left l.number (doing_of (g.L.Lent.sight l.lent) l.made)
+
+abbrev pub decreases-turns : goal.decreases-turns
+decreases-turns g l = turns_of l.nodes l.left

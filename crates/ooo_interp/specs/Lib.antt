@@ -1,0 +1,4 @@
+pub mod Acting
+pub mod Lending
+pub mod Running
+pub mod Ports

@@ -1,0 +1,99 @@
+ghost use Rattle.std.specs.Prelude.{◌≡◌, slice_set};
+
+use crate::parts::Lent;
+use crate::ports::{Port, fifo_at, put_at, signal_at, take_at};
+use ooo_code::Cells;
+use ooo_value::Value;
+
+/// Parts that stand in lists: the locals, all variables of a design, and a port for each channel that is seen.
+#[derive(Drop)]
+pub struct Whole {
+    pub slots: Vec<Value>,
+    pub variables: Vec<Cells>,
+    pub ports: Vec<Port>,
+}
+
+impl Lent for Whole {
+    ghost use Rattle.ooo_interp.specs.Ports.{all_shown};
+
+    ghost sight = { λ w. record {
+      slots = w.slots.items;
+      variables = w.variables.items;
+      seen = all_shown w.ports.items;
+    } };
+
+    fn slots(&self) -> &[Value] {
+        self.slots.as_slice()
+    }
+
+    fn cells(&self, variable: u32) -> &[Value] {
+        let x = variable as usize;
+        if x < self.variables.len() {
+            self.variables[x].as_slice()
+        } else {
+            &[]
+        }
+    }
+
+    fn signal(&self, channel: u32) -> (Value, bool) {
+        signal_at(&self.ports, channel)
+    }
+
+    fn first(&self, channel: u32) -> Option<Value> {
+        match fifo_at(&self.ports, channel) {
+            Some(fifo) => fifo.first(),
+            None => None,
+        }
+    }
+
+    fn available(&self, channel: u32) -> i32 {
+        match fifo_at(&self.ports, channel) {
+            Some(fifo) => fifo.available(),
+            None => 0,
+        }
+    }
+
+    fn free(&self, channel: u32) -> i32 {
+        match fifo_at(&self.ports, channel) {
+            Some(fifo) => fifo.free(),
+            None => 0,
+        }
+    }
+
+    fn set_slot(&mut self, slot: u32, v: Value) {
+        set_value(&mut self.slots, slot as usize, v);
+    }
+
+    fn set_cell(&mut self, variable: u32, at: usize, v: Value) {
+        let x = variable as usize;
+        if x < self.variables.len() {
+            set_item(&mut self.variables[x], at, v);
+        }
+    }
+
+    fn take(&mut self, channel: u32) {
+        take_at(&mut self.ports, channel);
+    }
+
+    fn put(&mut self, channel: u32) {
+        put_at(&mut self.ports, channel);
+    }
+}
+
+// Gives a place of a list a value, where there is that place.
+fn set_value(values: &mut Vec<Value>, at: usize, v: Value)
+    ensures { values.new.items ≡ slice_set values.old.items at v }
+{
+    if at < values.len() {
+        values[at] = v;
+    }
+}
+
+// Gives an element a value, where there is that element.
+fn set_item(cells: &mut Cells, at: usize, v: Value)
+    ensures { cells.new ≡ slice_set cells.old at v }
+{
+    if at < cells.len() {
+        cells.set(at, v);
+    }
+}
