@@ -1,7 +1,8 @@
 //! The words after the program's name, read as a command.
 //!
 //! Proved: [`read`] answers the command of the words, or their first breach from left to right with its word, and
-//! [`refusal`] is its line. Module [`law`] says that neither the form nor the order of settings matters.
+//! [`refusal`] is its line. Module [`law`] says that the form of settings doesn't matter, nor does their order where the
+//! words ask for a command.
 #![tactic(auto)]
 
 mod breach;
