@@ -30,6 +30,7 @@ pub record Fifo : Type 0 where
   pub reader : Option ℕ
   pub writer : Option ℕ
 
+-- a channel of a design: a signal (6.4) or a fifo (6.23)
 pub data Channel : Type 0 where
   IsSignal : Signal → Channel
   IsFifo : Fifo → Channel
@@ -43,10 +44,12 @@ first_channel c reader writer = elim c.kind [
 
 -- ---- what a process sees
 
+-- process p holds the end, if a process does
 abbrev pub is_process : ℕ → Option ℕ → Bool
 is_process p None = false
 is_process p (Some q) = p == q
 
+-- the time is that of the last change, if there was one
 abbrev pub is_time : Time → Option Time → Bool
 is_time t None = false
 is_time t (Some u) = t.0 == u.0
@@ -78,10 +81,12 @@ abbrev pub requested : Value → Channel → Channel
 requested v (IsSignal s) = IsSignal (record s { requested = Some v })
 requested v (IsFifo f) = IsFifo f
 
+-- a value that is put into a fifo stands behind those written before in this delta cycle (6.23); no put changes a signal
 abbrev pub put_into : Value → Channel → Channel
 put_into v (IsSignal s) = IsSignal s
 put_into v (IsFifo f) = IsFifo (record f { written = f.written ++ v ∷ [] })
 
+-- a take reads the next of the values that a fifo held as the delta cycle began (6.23); no take changes a signal
 abbrev pub taken_from : Channel → Channel
 taken_from (IsSignal s) = IsSignal s
 taken_from (IsFifo f) = IsFifo (record f { read = f.read + 1 })
@@ -109,10 +114,12 @@ updated now (IsFifo f) = IsFifo (record f { held = available f ++ f.written; rea
 
 -- ---- the events that the update notifies
 
+-- the channel is a signal that passes the test
 abbrev pub on_signal : (Signal → Bool) → Option Channel → Bool
 on_signal test (Some (IsSignal s)) = test s
 on_signal test _ = false
 
+-- the channel is a fifo that passes the test
 abbrev pub on_fifo : (Fifo → Bool) → Option Channel → Bool
 on_fifo test (Some (IsFifo f)) = test f
 on_fifo test _ = false

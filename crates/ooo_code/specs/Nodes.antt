@@ -43,6 +43,7 @@ pub record Doing : Type 0 where
   pub effects : List Effect
   pub trigger : Option WaitOn
 
+-- what an expression may read at this point of an activation
 abbrev pub sight_of : Doing → Sight
 sight_of d = record { slots = d.slots; variables = d.variables; seen = d.seen }
 
@@ -60,15 +61,19 @@ seen_after_put (seen.Signal b v changed ∷ others) c = seen.Signal b v changed 
 seen_after_put (seen.Fifo b values free ∷ others) c =
     (if c == b then seen.Fifo b values (free - 1) else seen.Fifo b values free) ∷ seen_after_put others c
 
+-- after a local was set
 abbrev pub with_slot : ℕ → Value → Doing → Doing
 with_slot n v d = record d { slots = slice_set d.slots n v }
 
+-- after a variable's cells were set
 abbrev pub with_cells : ℕ → List Value → Doing → Doing
 with_cells x cells d = record d { variables = slice_set d.variables x cells }
 
+-- after bytes were printed
 abbrev pub with_output : List ℕ → Doing → Doing
 with_output text d = record d { output = d.output ++ text }
 
+-- after an effect: effects stand in the order in which they were made
 abbrev pub with_effect : Effect → Doing → Doing
 with_effect f d = record d { effects = d.effects ++ f ∷ [] }
 
@@ -109,6 +114,7 @@ abbrev pub with_index : Running → (line : ℕ) → Doing → Option ℕ → (�
 with_index r line d None go = ends r.entry (job.Faulted IndexRange line) d
 with_index r line d (Some i) go = go i
 
+-- a time, as the time-out that a wait has
 abbrev pub some_time : Result Time Fault → Result (Option Time) Fault
 some_time (Ok k) = Ok (Some k)
 some_time (Err f) = Err f
@@ -118,6 +124,7 @@ abbrev pub wait_time : Option NodeTime → Sight → Result (Option Time) Fault
 wait_time None s = Ok None
 wait_time (Some t) s = some_time (time_given t s)
 
+-- what a wait waits for: its events, and its time-out if it has one (5.2.18)
 abbrev pub wait_on : NodeWait → Option Time → WaitOn
 wait_on w time = record { time = time; events = w.events }
 
@@ -208,10 +215,12 @@ abbrev pub next_of : Option Node → ℕ
 next_of None = 0
 next_of (Some node) = node.next
 
+-- the node at which a segment begins: the first of its process, or the one that its wait leads to
 abbrev pub entry_node : Design → Proc → SegmentEntry → ℕ
 entry_node design process Start = process.first
 entry_node design process (After wait) = next_of (slice_get design.nodes wait)
 
+-- an activation as it begins: nothing is printed, done or set yet
 abbrev pub doing_at : Frame → View → Doing
 doing_at frame v = record { slots = frame.slots; variables = v.variables; seen = v.seen; output = []; effects = []; trigger = None }
 

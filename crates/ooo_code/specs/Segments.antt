@@ -24,9 +24,11 @@ leads_to (kind.Wait w) next = []
 leads_to kind.End next = []
 leads_to _ next = next ∷ []
 
+-- the nodes to which a node leads within its segment
 abbrev pub successors : Node → List ℕ
 successors node = leads_to node.kind node.next
 
+-- the node ends its segment by a wait
 abbrev pub is_wait : Node → Bool
 is_wait node = elim node.kind [ kind.Wait w ↦ true | _ ↦ false ]
 

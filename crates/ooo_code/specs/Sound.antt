@@ -37,10 +37,12 @@ pub record Scope : Type 0 where
 abbrev pub Typed : Type 0
 Typed = Option Kind
 
+-- the second kind, where there is a first one
 abbrev pub if_typed : Typed → Typed → Typed
 if_typed None k = None
 if_typed (Some j) k = k
 
+-- the kind of a variable's cells, if there is the variable
 abbrev pub variable_kind : Option BoundVariable → Typed
 variable_kind None = None
 variable_kind (Some x) = Some x.kind
@@ -60,6 +62,7 @@ abbrev pub if_bool : Typed → Typed
 if_bool (Some value_kind.Bool) = Some value_kind.Bool
 if_bool _ = None
 
+-- two kinds are the same
 abbrev pub same_kind : Kind → Kind → Bool
 same_kind value_kind.Bool value_kind.Bool = true
 same_kind value_kind.Int value_kind.Int = true
@@ -73,6 +76,7 @@ abbrev pub both_kind : Typed → Typed → Typed
 both_kind (Some j) (Some k) = if same_kind j k then Some j else None
 both_kind _ _ = None
 
+-- the kind that an operation gives by those of both operands, where they have one
 abbrev pub of_two : (Kind → Kind → Kind) → Typed → Typed → Typed
 of_two f (Some j) (Some k) = Some (f j k)
 of_two f _ _ = None
@@ -182,6 +186,7 @@ HasStatic sensitive (kind.Trigger w) = IsTrue w.is_static → w.events ≡ sensi
 HasStatic sensitive (kind.Wait w) = IsTrue w.is_static → w.events ≡ sensitive
 HasStatic sensitive _ = Unit {0}
 
+-- the kinds of what the expressions of a process may name
 abbrev pub scope_of : Design → Proc → Scope
 scope_of design process = record { slots = process.slots; variables = design.variables; channels = design.channels }
 

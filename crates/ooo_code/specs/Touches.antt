@@ -44,6 +44,7 @@ reads_step (layer.And a b) = a ++ b
 reads_step (layer.Or a b) = a ++ b
 reads_step (layer.Choose c a b) = c ++ a ++ b
 
+-- what an expression reads, whichever way its tests go
 unfoldable pub reads_of : NodeExpr → List Touch
 reads_of e = fold-NodeExpr (List Touch) reads_step e
 
@@ -76,10 +77,12 @@ is_of_signal c (event.Rise d) = c == d
 is_of_signal c (event.Fall d) = c == d
 is_of_signal c _ = false
 
+-- the event that a fifo's written values notify (6.23)
 abbrev pub is_data_written : ℕ → BoundEvent → Bool
 is_data_written c (event.Written d) = c == d
 is_data_written c _ = false
 
+-- the event that a fifo's read values notify (6.23)
 abbrev pub is_data_read : ℕ → BoundEvent → Bool
 is_data_read c (event.Taken d) = c == d
 is_data_read c _ = false

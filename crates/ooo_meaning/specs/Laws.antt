@@ -36,10 +36,12 @@ IsLater now Nothing = Unit {0}
 IsLater now (NextDelta made) = ⊥
 IsLater now (AtTime t) = now < t.0
 
+-- each slot has nothing pending, or something at a later time
 abbrev pub AllLater : ℕ → List Slot → Type 0
 AllLater now [] = Unit {0}
 AllLater now (x ∷ xs) = IsLater now x × AllLater now xs
 
+-- the time-outs of all processes
 abbrev pub timeouts : List Wait → List Slot
 timeouts waits = map (λ x. x.timeout) waits
 

@@ -41,6 +41,7 @@ use Rattle.ooo_meaning.specs.Runs.{sequential_run, first_world, numbers_from}
 
 -- ---- how a design is written here
 
+-- a time of n nanoseconds
 abbrev pub ns : ℕ → Time
 ns n = record { 0 = n * 1000 }
 
@@ -51,23 +52,29 @@ counted k line next = record { kind = k; line = line; counts = true; next = next
 abbrev pub uncounted : NodeKind → (line next : ℕ) → Node
 uncounted k line next = record { kind = k; line = line; counts = false; next = next }
 
+-- a method of these nodes, with its static events
 abbrev pub method : (first end : ℕ) → (sensitive : List ℕ) → Proc
 method first end sensitive =
     record { kind = Method; first = first; end = end; slots = []; sensitive = sensitive; initialize = true }
 
+-- a thread of these nodes, with the kinds of its locals and its static events
 abbrev pub thread : (first end : ℕ) → List Kind → (sensitive : List ℕ) → Proc
 thread first end slots sensitive =
     record { kind = Thread; first = first; end = end; slots = slots; sensitive = sensitive; initialize = true }
 
+-- a signal of this kind
 abbrev pub signal : Kind → BoundChannel
 signal k = record { kind = channel.Signal; value = k; size = 0 }
 
+-- a number of kind int
 abbrev pub int : ℕ → NodeExpr
 int n = expression.Constant (value.Int (pos n))
 
+-- a sum
 abbrev pub add : NodeExpr → NodeExpr → NodeExpr
 add a b = expression.Binary op.Add a b
 
+-- a stop time in nanoseconds, a delta limit, and a limit of 9 statements
 abbrev pub limits : (stop deltas : ℕ) → Limits
 limits stop deltas = record { stop = ns stop; deltas = deltas; statements = 9 }
 
@@ -89,14 +96,17 @@ report_of names (Some r) = report_text (run_of r) names
 abbrev pub report_in : ℕ → Design → Limits → Names → List ℕ
 report_in cycles design limits names = report_of names (sequential_run design limits cycles)
 
+-- the full names of processes and channels
 abbrev pub names : (processes channels : List (List ℕ)) → Names
 names processes channels = record { processes = processes; channels = channels }
 
 -- ---- event-overrides
 
+-- a wait for n nanoseconds
 abbrev pub fixed : ℕ → NodeKind
 fixed n = kind.Wait (record { time = Some (time.Fixed (ns n)); events = []; is_static = false })
 
+-- a wait for an event
 abbrev pub on_event : ℕ → NodeKind
 on_event e = kind.Wait (record { time = None; events = e ∷ []; is_static = false })
 
@@ -104,9 +114,11 @@ on_event e = kind.Wait (record { time = None; events = e ∷ []; is_static = fal
 abbrev pub fixed_or_event : ℕ → ℕ → NodeKind
 fixed_or_event n e = kind.Wait (record { time = Some (time.Fixed (ns n)); events = e ∷ []; is_static = false })
 
+-- a notification of event 0 after n nanoseconds
 abbrev pub notify : ℕ → NodeKind
 notify n = kind.Notify 0 (time.Fixed (ns n))
 
+-- a thread that notifies and cancels one event, and one that prints the time whenever it comes
 abbrev pub event_overrides : Design
 event_overrides = record {
   nodes =
@@ -124,6 +136,7 @@ event_overrides_report = report_in 9 event_overrides (limits 100 10) (names [] [
 
 -- ---- crossed-signals: both methods read 0
 
+-- two methods, each of which writes one more than the signal that the other writes
 abbrev pub crossed_signals : Design
 crossed_signals = record {
   nodes =
@@ -140,6 +153,7 @@ crossed_signals_report = report_in 5 crossed_signals (limits 100 9) (names [] (c
 
 -- ---- two printing threads
 
+-- two threads that print, one of which waits in between
 abbrev pub two_printing_threads : Design
 two_printing_threads = record {
   nodes =
@@ -160,6 +174,7 @@ stopped_at_5_ns_report = report_in 3 two_printing_threads (limits 5 10) (names [
 
 -- ---- a model without processes
 
+-- no process at all
 abbrev pub empty_model : Design
 empty_model = record { nodes = []; processes = []; variables = []; channels = []; events = [] }
 
@@ -168,6 +183,7 @@ empty_model_report = report_in 1 empty_model (limits 10 10) (names [] [])
 
 -- ---- time-or-event: a time-out and an event at one stamp wake a process once
 
+-- a thread that waits twice for an event or a time, and one that notifies the event once
 abbrev pub time_or_event : Design
 time_or_event = record {
   nodes =
@@ -185,6 +201,7 @@ time_or_event_report = report_in 4 time_or_event (limits 100 10) (names [] [])
 
 -- ---- endless-loop: the statement limit, here of 9, ends the run before the second process has its turn
 
+-- a thread that prints and then never waits, and one that isn't reached
 abbrev pub endless_loop : Design
 endless_loop = record {
   nodes =
@@ -201,12 +218,15 @@ endless_loop_report = report_in 2 endless_loop (limits 100 10) (names (codes "m.
 
 -- ---- stop-or-fault: a fault in the cycle of sc_stop ends the run at its place, one in a later cycle comes too late
 
+-- a division by the variable
 abbrev pub one_over_z : NodeExpr
 one_over_z = expression.Binary op.Divide (int 1) (expression.Variable 0)
 
+-- an int that starts at 0
 abbrev pub z : BoundVariable
 z = record { kind = value_kind.Int; length = 1; start = value.Int (pos 0) }
 
+-- a thread that calls sc_stop, and one that divides by zero in the same cycle
 abbrev pub stop_or_fault : Design
 stop_or_fault = record {
   nodes = counted kind.Stop 4 1 ∷ uncounted kind.End 4 1 ∷ counted (kind.Store 0 None one_over_z) 5 3 ∷ uncounted kind.End 5 3 ∷ [];
@@ -219,6 +239,7 @@ stop_or_fault = record {
 abbrev pub stop_or_fault_report : List ℕ
 stop_or_fault_report = report_in 2 stop_or_fault (limits 100 10) (names (codes "m.a" ∷ codes "m.b" ∷ []) [])
 
+-- the same, where the division comes a delta cycle later
 abbrev pub stop_before_fault : Design
 stop_before_fault = record {
   nodes =
@@ -234,6 +255,7 @@ stop_before_fault_report = report_in 2 stop_before_fault (limits 100 10) (names 
 
 -- ---- endless deltas: a thread that waits for no time again and again, with a delta limit of 4
 
+-- a thread that waits for no time, again and again
 abbrev pub endless_deltas : Design
 endless_deltas = record {
   nodes = counted (fixed 0) 3 1 ∷ counted kind.PrintTime 3 2 ∷ uncounted (kind.PrintText (10 ∷ [])) 3 0 ∷ [];
@@ -248,13 +270,16 @@ endless_deltas_report = report_in 5 endless_deltas (limits 100 4) (names [] [])
 
 -- ---- processes that are told by what they do at each place, so that channels can be tried without expressions
 
+-- what a process did: it printed, had these effects, ended so, and goes on at a place; its variables stay
 abbrev pub does : View → (output : List ℕ) → List Effect → JobEnd → (next : ℕ) → Outcome ℕ
 does v output effects end next =
     record { deed = record { output = output; variables = v.variables; effects = effects; end = end }; next = next }
 
+-- it waits for n nanoseconds
 abbrev pub waits_for : ℕ → JobEnd
 waits_for n = job.Waits (record { time = Some (ns n); events = [] })
 
+-- it waits for an event
 abbrev pub waits_on : ℕ → JobEnd
 waits_on e = job.Waits (record { time = None; events = e ∷ [] })
 
@@ -266,13 +291,16 @@ told_report activate processes cycles events channels bounds channel_names =
     (run_whole activate (numbers_from 0 processes) bounds cycles
     (state_of (first_world (replicate processes awake) [] events channels) (replicate processes 0)))
 
+-- an empty fifo of this size, with the processes that hold its ends
 abbrev pub fifo_from : (size writer reader : ℕ) → Channel
 fifo_from size writer reader =
     IsFifo (record { size = size; held = []; read = 0; written = []; reader = Some reader; writer = Some writer })
 
+-- a signal with this value
 abbrev pub signal_at : Value → Channel
 signal_at v = IsSignal (record { current = v; requested = None; changed = None })
 
+-- a value of kind int
 abbrev pub number : ℕ → Value
 number n = value.Int (pos n)
 
@@ -293,6 +321,7 @@ abbrev pub takes_all : ℕ → View → List Value → Outcome ℕ
 takes_all n v [] = does v [] [] (waits_on 0) n
 takes_all n v (x ∷ xs) = does v (value_text x ++ 10 ∷ []) (effect.Take 0 ∷ []) (waits_on 0) n
 
+-- the writer is process 0, the reader process 1
 abbrev pub fifo_of_one : Activate ℕ
 fifo_of_one zero n v = puts_three n v (fifo_seen v.seen 0).free
 fifo_of_one (suc p) n v = takes_all n v (fifo_seen v.seen 0).values
@@ -303,6 +332,7 @@ fifo_of_one_report =
 
 -- ---- the second text of fifo-of-one: a slot that is freed isn't free in the same delta cycle
 
+-- the reader takes at 5 ns; the writer, which runs after it in that delta cycle, prints the free slots
 abbrev pub freed_slot : Activate ℕ
 freed_slot zero zero v = does v [] [] (waits_for 5) 1
 freed_slot zero (suc n) v = does v [] (effect.Take 0 ∷ []) job.Ended 2
@@ -315,6 +345,7 @@ freed_slot_report =
 
 -- ---- endless-deltas with a delta limit of 4: two methods, each sensitive to the signal that the other writes
 
+-- one method writes the opposite of what the other writes, and the other copies it
 abbrev pub crossed_methods : Activate ℕ
 crossed_methods zero n v =
     does v [] (effect.Request 0 (value.Bool (not (truth_of (signal_seen v.seen 1).value))) ∷ []) (waits_on 1) 0
@@ -340,10 +371,12 @@ abbrev pub producer : ℕ → View → Outcome ℕ
 producer zero v = does v [] [] (waits_on 0) 1
 producer (suc n) v = does v [] (effect.Put 1 (number (suc n)) ∷ []) (waits_on 0) (suc n + 1)
 
+-- the consumer prints the time and the next value, and waits for data written
 abbrev pub consumer : View → List Value → Outcome ℕ
 consumer v [] = does v [] [] (waits_on 1) 0
 consumer v (x ∷ xs) = does v (time_text v.stamp.time ++ codes ": " ++ value_text x ++ 10 ∷ []) (effect.Take 1 ∷ []) (waits_on 1) 0
 
+-- the clock is process 0, the producer process 1, the consumer process 2
 abbrev pub clocked_producer : Activate ℕ
 clocked_producer zero n v = clock n v
 clocked_producer (suc zero) n v = producer n v

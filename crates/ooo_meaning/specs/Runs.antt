@@ -41,9 +41,11 @@ first_world waits variables events channels = record {
 
 -- ---- a design
 
+-- what is touched is the fifo's reading end
 abbrev pub holds_reading : ℕ → Touch → Bool
 holds_reading c touch = elim touch [ HoldsReading d ↦ c == d | _ ↦ false ]
 
+-- what is touched is the fifo's writing end
 abbrev pub holds_writing : ℕ → Touch → Bool
 holds_writing c touch = elim touch [ HoldsWriting d ↦ c == d | _ ↦ false ]
 

@@ -12,6 +12,7 @@ pub record State (K : Type 0) : Type 0 where
   pub world : World
   pub places : List K
 
+-- a state, of its two parts
 abbrev pub state_of : {K : Type 0} → World → List K → State K
 state_of w places = record { world = w; places = places }
 
@@ -46,9 +47,11 @@ pub record Result : Type 0 where
 abbrev pub output_of : Result → List ℕ
 output_of r = flat_map (λ m. m.deed.output) r.made
 
+-- what a run has given where it ends in this world
 abbrev pub result_of : World → End → Result
 result_of w e = record { histories = w.histories; made = w.made; end = e }
 
+-- a run that is over has its result; one that goes on has what follows
 abbrev pub finish : {K : Type 0} → List K → Progress → (State K → Option Result) → Option Result
 finish places (Over w e) go = Some (result_of w e)
 finish places (Goes w) go = go (state_of w places)

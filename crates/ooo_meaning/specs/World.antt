@@ -58,9 +58,11 @@ never = record { runnable = false; events = []; timeout = Nothing }
 abbrev pub awake : Wait
 awake = record { runnable = true; events = []; timeout = Nothing }
 
+-- what process p waits for; a process that there isn't waits for nothing
 abbrev pub wait_at : List Wait → ℕ → Wait
 wait_at waits p = slice_index_or waits p never
 
+-- what is pending for event e; for an event that there isn't nothing is
 abbrev pub slot_at : List Slot → ℕ → Slot
 slot_at slots e = slice_index_or slots e Nothing
 
@@ -68,6 +70,7 @@ slot_at slots e = slice_index_or slots e Nothing
 abbrev pub no_channel : Channel
 no_channel = IsSignal (record { current = no_value; requested = None; changed = None })
 
+-- channel c as it stands
 abbrev pub channel_at : List Channel → ℕ → Channel
 channel_at channels c = slice_index_or channels c no_channel
 
@@ -86,6 +89,7 @@ apply w (effect.Notify e k) = record w { slots = slice_set w.slots e (slot_after
 apply w (effect.Cancel e) = record w { slots = slice_set w.slots e (slot_after_cancel (slot_at w.slots e)) }
 apply w effect.Stop = record w { stopped = true }
 
+-- the effects of an activation, in their order
 abbrev pub apply_all : World → List Effect → World
 apply_all w effects = fold apply w effects
 
@@ -105,6 +109,7 @@ broken_by at (job.Faulted f line) = Some (end.Fault f at line)
 broken_by at (job.Limit line) = Some (end.Statements at line)
 broken_by at _ = None
 
+-- the place of an activation: its stamp and its process
 abbrev pub place_of : Stamp → ℕ → Place
 place_of s p = record { stamp = s; process = p }
 
@@ -135,6 +140,7 @@ entries_of s (IsFifo f) =
     map (λ v. record { stamp = s; what = Took; value = v }) (take f.read f.held)
     ++ map (λ v. record { stamp = s; what = Put; value = v }) f.written
 
+-- each history with what the update of its channel adds
 abbrev pub longer_histories : Stamp → List Channel → List (List Entry) → List (List Entry)
 longer_histories s (c ∷ cs) (h ∷ hs) = (h ++ entries_of s c) ∷ longer_histories s cs hs
 longer_histories s _ hs = hs
@@ -145,6 +151,7 @@ notified_slots s cs (e ∷ es) (x ∷ xs) =
     (if is_notified cs e then slot_after_delta x s else x) ∷ notified_slots s cs es xs
 notified_slots s cs _ xs = xs
 
+-- the update: each channel changes, its history grows, and its events are notified for the next delta cycle
 unfoldable pub update : World → World
 update w = record w {
   channels = map (updated w.stamp.time) w.channels;
@@ -154,9 +161,11 @@ update w = record w {
 
 -- ---- the notification phases (4.2.1.4 and 4.2.1.5)
 
+-- two stamps are the same
 abbrev pub same_stamp : Stamp → Stamp → Bool
 same_stamp a b = (a.time.0 == b.time.0) && (a.delta == b.delta)
 
+-- something pending is due at the stamp
 abbrev pub is_at : Stamp → Option Stamp → Bool
 is_at s None = false
 is_at s (Some t) = same_stamp s t
@@ -175,11 +184,13 @@ reach s w = record w { stamp = s; waits = map (woken s w.slots) w.waits; slots =
 
 -- ---- the next stamp
 
+-- the earlier of two stamps, of those that there are
 abbrev pub sooner : Option Stamp → Option Stamp → Option Stamp
 sooner None b = b
 sooner (Some a) None = Some a
 sooner (Some a) (Some b) = if is_before b a then Some b else Some a
 
+-- the earliest of some stamps, of those that there are
 abbrev pub least : List (Option Stamp) → Option Stamp
 least [] = None
 least (x ∷ xs) = sooner x (least xs)
@@ -196,9 +207,11 @@ least_activity w = least (map (activity w.slots) w.waits)
 abbrev pub least_pending : World → Option Stamp
 least_pending w = sooner (least (map due_of w.slots)) (least (map (λ x. due_of x.timeout) w.waits))
 
+-- the stamp of the next delta cycle at the same time
 abbrev pub next_delta : Stamp → Stamp
 next_delta s = record { time = s.time; delta = s.delta + 1 }
 
+-- some process is runnable
 abbrev pub some_runnable : World → Bool
 some_runnable w = list_any (λ x. x.runnable) w.waits
 
@@ -217,6 +230,7 @@ zero_stamp = record { time = record { 0 = 0 }; delta = 0 }
 abbrev pub last_stamp : List Made → Stamp
 last_stamp made = fold (λ s m. m.place.stamp) zero_stamp made
 
+-- the run is over since no process will run again: it ends idle, at the stamp of its last activation
 abbrev pub idle : World → Progress
 idle w = Over w (end.Idle (last_stamp w.made))
 
