@@ -1,9 +1,10 @@
 -- What holds of every source.
-use Rattle.std.specs.Prelude.{◌≡◌, ℕ, ◌⊎◌, List, ◌++◌, All, map}
+use Rattle.std.specs.Prelude.{◌≡◌, ℕ, ◌⊎◌, Ok, List, ◌++◌, All, map}
 use Rattle.ooo_lexer.specs.declared.breach.LexBreach.{LexBreach}
 use Rattle.ooo_lexer.specs.declared.numbers.Number.{Number}
 use Rattle.ooo_lexer.specs.declared.position.Position.{Position}
 use Rattle.ooo_lexer.specs.declared.token.Token.{Token}
+use Rattle.ooo_lexer.specs.Numerals.{number_of}
 use Rattle.ooo_lexer.specs.Numbers.{IsNumberOf}
 use Rattle.ooo_lexer.specs.Pieces.{Piece, Cuts, lexemes}
 use Rattle.ooo_lexer.specs.Breaches.{HasBreach, IsOnlyBreach}
@@ -33,6 +34,10 @@ IsCutOrBroken = (source : List ℕ) → ((pieces : List Piece) × Cuts source pi
 -- a number has one kind and one value
 abbrev pub IsOneNumber : Type 0
 IsOneNumber = (bs : List ℕ) (n o : Number) → IsNumberOf bs n → IsNumberOf bs o → n ≡ o
+
+-- a number is found in its bytes, and what is found is the number
+abbrev pub IsNumberFound : Type 0
+IsNumberFound = (bs : List ℕ) (n : Number) → (IsNumberOf bs n → number_of bs ≡ Ok n) × (number_of bs ≡ Ok n → IsNumberOf bs n)
 
 -- the spans of a source's tokens lie within it
 abbrev pub SpansAreWithin : Type 0
