@@ -13,7 +13,7 @@ use ooo_grammar::{
     Limits, Read, ReadError, begins_with_plain_type, named_type, next, one, one_inside,
     read_literal, read_long_after, read_member_word, read_plain_type, read_word, starts,
 };
-use ooo_syntax::{BinaryOp, Expr, PrefixOp, Symbol, Terminal, TypeForm, TypeName, Word};
+use ooo_syntax::{BinaryOp, Expr, Mark, PrefixOp, Symbol, Terminal, TypeForm, TypeName, Word};
 use sqlite_items::{Boxed, Items};
 use std::alloc::{AllocError, Global};
 
@@ -212,11 +212,11 @@ fn read_named<'a>(alloc: Global, tokens: &'a [Symbol<'a>], limits: Limits) -> Re
 fn read_prefixed_by<'a>(
     alloc: Global,
     op: PrefixOp,
-    sign: Symbol<'a>,
+    sign: Mark,
     tokens: &'a [Symbol<'a>],
     limits: Limits,
 ) -> Read<'a, Expr>
-    ensures { Gives (reads_at limits (prefixed_by op sign.entry) tokens.now) result }
+    ensures { Gives (reads_at limits (prefixed_by op sign) tokens.now) result }
 {
     let (of, rest) = read_operand(alloc, tokens, limits)?;
     Ok((
@@ -461,12 +461,12 @@ fn read_inside<'a>(
 #[tactic(auto, using(ooo_grammar::specs::Steps::steps), unfolding(ooo_grammar::specs::Expressions::cast_to))]
 fn read_cast_to<'a>(
     alloc: Global,
-    opening: Symbol<'a>,
+    opening: Mark,
     form: TypeName,
     tokens: &'a [Symbol<'a>],
     limits: Limits,
 ) -> Read<'a, Expr>
-    ensures { Gives (reads_at limits (cast_to opening.entry form) tokens.now) result }
+    ensures { Gives (reads_at limits (cast_to opening form) tokens.now) result }
 {
     let (_, rest) = one(tokens, Terminal::Close, limits)?;
     let (of, rest) = read_operand(alloc, rest, limits)?;
@@ -522,12 +522,12 @@ fn read_long_inside<'a>(
 #[tactic(auto, using(ooo_grammar::specs::Steps::steps), unfolding(ooo_grammar::specs::Expressions::conversion_first))]
 fn read_conversion_first<'a>(
     alloc: Global,
-    opening: Symbol<'a>,
+    opening: Mark,
     form: TypeName,
     tokens: &'a [Symbol<'a>],
     limits: Limits,
 ) -> Read<'a, Expr>
-    ensures { Gives (reads_at limits (conversion_first opening.entry form) tokens.now) result }
+    ensures { Gives (reads_at limits (conversion_first opening form) tokens.now) result }
 {
     let (of, rest) = read_inside(alloc, form, tokens, limits)?;
     let (_, rest) = one(rest, Terminal::Close, limits)?;
@@ -539,12 +539,12 @@ fn read_conversion_first<'a>(
 #[tactic(auto, using(ooo_grammar::specs::Steps::steps), unfolding(ooo_grammar::specs::Expressions::after_short_type))]
 fn read_after_short_type<'a>(
     alloc: Global,
-    opening: Symbol<'a>,
+    opening: Mark,
     form: TypeName,
     tokens: &'a [Symbol<'a>],
     limits: Limits,
 ) -> Read<'a, Expr>
-    ensures { Gives (reads_at limits (after_short_type opening.entry form) tokens.now) result }
+    ensures { Gives (reads_at limits (after_short_type opening form) tokens.now) result }
 {
     if starts(tokens, Terminal::Close) {
         return read_cast_to(alloc, opening, form, tokens, limits);
@@ -557,14 +557,14 @@ fn read_after_short_type<'a>(
 #[tactic(auto, using(ooo_grammar::specs::Steps::steps), unfolding(ooo_grammar::specs::Expressions::long_cast))]
 fn read_long_cast<'a>(
     alloc: Global,
-    opening: Symbol<'a>,
-    word: Symbol<'a>,
+    opening: Mark,
+    word: Mark,
     bare: TypeForm,
     full: TypeForm,
     tokens: &'a [Symbol<'a>],
     limits: Limits,
 ) -> Read<'a, Expr>
-    ensures { Gives (reads_at limits (long_cast opening.entry word.entry bare full) tokens.now) result }
+    ensures { Gives (reads_at limits (long_cast opening word bare full) tokens.now) result }
 {
     let (form, rest) = read_long_inside(bare, full, tokens, limits)?;
     read_cast_to(alloc, opening, named_type(word, form), rest, limits)
@@ -575,12 +575,12 @@ fn read_long_cast<'a>(
 #[tactic(auto, using(ooo_grammar::specs::Steps::steps), unfolding(ooo_grammar::specs::Expressions::after_unsigned_cast))]
 fn read_after_unsigned_cast<'a>(
     alloc: Global,
-    opening: Symbol<'a>,
-    word: Symbol<'a>,
+    opening: Mark,
+    word: Mark,
     tokens: &'a [Symbol<'a>],
     limits: Limits,
 ) -> Read<'a, Expr>
-    ensures { Gives (reads_at limits (after_unsigned_cast opening.entry word.entry) tokens.now) result }
+    ensures { Gives (reads_at limits (after_unsigned_cast opening word) tokens.now) result }
 {
     if starts(tokens, Terminal::Int) {
         let (_, rest) = one_inside(tokens, Terminal::Int, limits)?;
@@ -626,11 +626,11 @@ fn read_plain_type_inside<'a>(tokens: &'a [Symbol<'a>], limits: Limits) -> Read<
 #[tactic(auto, using(ooo_grammar::specs::Steps::steps), unfolding(ooo_grammar::specs::Expressions::parenthesis))]
 fn read_parenthesis<'a>(
     alloc: Global,
-    opening: Symbol<'a>,
+    opening: Mark,
     tokens: &'a [Symbol<'a>],
     limits: Limits,
 ) -> Read<'a, Expr>
-    ensures { Gives (reads_at limits (parenthesis opening.entry) tokens.now) result }
+    ensures { Gives (reads_at limits (parenthesis opening) tokens.now) result }
 {
     let (of, rest) = read_inner_plain(alloc, tokens, limits)?;
     let (_, rest) = one(rest, Terminal::Close, limits)?;
@@ -642,11 +642,11 @@ fn read_parenthesis<'a>(
 #[tactic(auto, using(ooo_grammar::specs::Steps::steps), unfolding(ooo_grammar::specs::Expressions::after_open))]
 fn read_after_open<'a>(
     alloc: Global,
-    opening: Symbol<'a>,
+    opening: Mark,
     tokens: &'a [Symbol<'a>],
     limits: Limits,
 ) -> Read<'a, Expr>
-    ensures { Gives (reads_at limits (after_open opening.entry) tokens.now) result }
+    ensures { Gives (reads_at limits (after_open opening) tokens.now) result }
 {
     if begins_with_plain_type(tokens) {
         let (form, rest) = read_plain_type_inside(tokens, limits)?;

@@ -7,6 +7,9 @@ pub mod Agree
 pub mod Passes
 pub mod Whole
 pub mod Once
+pub mod Prefixes
+pub mod Apart
+pub mod Anywhere
 pub mod LexisLines
 pub mod ExpressionsLines
 pub mod TimesLines

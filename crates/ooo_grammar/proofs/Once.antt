@@ -8,13 +8,13 @@ use Rattle.ooo_grammar.specs.Laws.{Derives, Begins, Refuses}
 use Rattle.ooo_grammar.proofs.Whole.{completes, begins, finds, one}
 
 -- two fronts of one list are the same, or one goes on with a token of the other's rest
-abbrev IsAhead : List Symbol → List Symbol → List Symbol → Type 0
+abbrev pub IsAhead : List Symbol → List Symbol → List Symbol → Type 0
 IsAhead x y s = (k : Symbol) × (us zs : List Symbol) × (s ≡ k ∷ us) × (x ≡ (y ++ k ∷ []) ++ zs)
 
-abbrev Compared : List Symbol → List Symbol → List Symbol → List Symbol → Type 0
+abbrev pub Compared : List Symbol → List Symbol → List Symbol → List Symbol → Type 0
 Compared x r y s = (r ≡ s) ⊎ (IsAhead x y s ⊎ IsAhead y x r)
 
-compared : (x r y s : List Symbol) → x ++ r ≡ y ++ s → Compared x r y s
+pub compared : (x r y s : List Symbol) → x ++ r ≡ y ++ s → Compared x r y s
 compared [] r [] s e = inl e
 compared [] r (k ∷ y) s e = inr (inr (k, y ++ s, y, e, refl))
 compared (k ∷ x) r [] s e = inr (inl (k, x ++ r, x, sym e, refl))

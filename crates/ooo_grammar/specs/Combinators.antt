@@ -4,13 +4,14 @@ use Rattle.std.proofs.Common.{ap}
 use Rattle.std.proofs.lemmas.Bool.{and_parts}
 use Rattle.ooo_syntax.specs.declared.terminal.Terminal.{Terminal}
 use Rattle.ooo_syntax.specs.declared.terminal.Terminal.TheVariants as terminal
+use Rattle.ooo_syntax.specs.declared.symbol.Mark.{Mark}
 use Rattle.ooo_syntax.specs.declared.symbol.Symbol.{Symbol}
 use Rattle.ooo_lexer.specs.declared.position.Position.{Position}
 use Rattle.ooo_syntax.specs.declared.expr.Expr.{Expr}
 use Rattle.ooo_syntax.specs.declared.expr.Expr.TheVariants as expr
 use Rattle.ooo_syntax.specs.declared.expr.BinaryOp.{BinaryOp}
 use Rattle.ooo_value.specs.declared.values.Value.TheVariants as value
-use Rattle.ooo_grammar.specs.Sets.{Terminals, disjoint, subset, join, of, of_terminals, some_if, Row, table_test, table_terminals, table_of, first_row, has_first, subset_self, same_self, subset_left, subset_right, subset_level, subset_twice}
+use Rattle.ooo_grammar.specs.Sets.{Terminals, disjoint, subset, join, anywhere, of, of_terminals, some_if, Row, table_test, table_terminals, table_of, first_row, has_first, subset_self, same_self, subset_left, subset_right, subset_level, subset_twice}
 use Rattle.ooo_grammar.specs.Codes.{Code, after_maybe, nothing, token_of, pair, choice, maybe, many, mapped, within, deeper}
 
 -- nothing may go on
@@ -28,12 +29,20 @@ start = record { line = 1; column = 1 }
 abbrev pub sample : Terminal → Symbol
 sample K = record { terminal = K; text = record { ref_ptr = (0, 0); now = [] }; value = value.Int (pos 0); counts = false; before = 0; position = start; first = start }
 
+-- K | …, as what a symbol says wherever its bytes stand in memory
+abbrev pub one_as : {X : Type 0} (h : Symbol → X) (K : Terminal) (Ks : Terminals) → ((k : Symbol) → h (anywhere k) ≡ h k) → Code X (K ∷ Ks) none false
+one_as h K Ks i = token_of (of h (K ∷ Ks)) (K ∷ Ks) (of_terminals h (K ∷ Ks) i) (sample K) (h (sample K)) (ap (λ b. some_if b (h (sample K))) (has_first K Ks))
+
+-- where it stands
+abbrev pub mark_of : Symbol → Mark
+mark_of k = record { position = k.position }
+
 -- K | …
-abbrev pub one_of : (K : Terminal) (Ks : Terminals) → Code Symbol (K ∷ Ks) none false
-one_of K Ks = token_of (of (K ∷ Ks)) (K ∷ Ks) (of_terminals (K ∷ Ks)) (sample K) (sample K) (ap (λ b. some_if b (sample K)) (has_first K Ks))
+abbrev pub one_of : (K : Terminal) (Ks : Terminals) → Code Mark (K ∷ Ks) none false
+one_of K Ks = one_as mark_of K Ks (λ _. refl)
 
 -- "K"
-abbrev pub quoted : (K : Terminal) → Code Symbol (K ∷ []) none false
+abbrev pub quoted : (K : Terminal) → Code Mark (K ∷ []) none false
 quoted K = one_of K []
 
 -- one of these terminals, as a value
@@ -55,7 +64,7 @@ abbrev pub skip : {A : Type 0} {f : Terminals} {g : A → Terminals} {e : Bool} 
 skip K c = pair (quoted K) (λ _. c) refl
 
 -- "K" c, where c may name the token
-abbrev pub led : {A : Type 0} {f : Terminals} {g : A → Terminals} {e : Bool} (K : Terminal) → (Symbol → Code A f g e) → Code A (K ∷ []) (λ a. join e [] (g a)) false
+abbrev pub led : {A : Type 0} {f : Terminals} {g : A → Terminals} {e : Bool} (K : Terminal) → (Mark → Code A f g e) → Code A (K ∷ []) (λ a. join e [] (g a)) false
 led K c = pair (quoted K) c refl
 
 -- "K" c, where c stands in a bracket that is open already, and so does "K"

@@ -2,7 +2,7 @@
 use Rattle.std.specs.Prelude.{true, false, List, [], ◌∷◌, ◌++◌, refl}
 use Rattle.ooo_syntax.specs.declared.terminal.Terminal.{Terminal}
 use Rattle.ooo_syntax.specs.declared.terminal.Terminal.TheVariants as terminal
-use Rattle.ooo_syntax.specs.declared.symbol.Symbol.{Symbol}
+use Rattle.ooo_syntax.specs.declared.symbol.Mark.{Mark}
 use Rattle.ooo_syntax.specs.declared.leaves.Word.{Word}
 use Rattle.ooo_syntax.specs.declared.leaves.TypeForm.{TypeForm}
 use Rattle.ooo_syntax.specs.declared.leaves.TypeForm.TheVariants as form
@@ -66,7 +66,7 @@ unfoldable pub truth : Code Expr (terminal.True ∷ terminal.False ∷ []) none 
 truth = or (to (λ k. expr.Truth true k.position) (quoted terminal.True)) (to (λ k. expr.Truth false k.position) (quoted terminal.False)) refl
 
 -- the sign's token and what it means, before an operand
-unfoldable pub prefixed_by : PrefixOp → Symbol → Code Expr begins_expr (always word_tails) false
+unfoldable pub prefixed_by : PrefixOp → Mark → Code Expr begins_expr (always word_tails) false
 prefixed_by p k = to (λ e. expr.Prefix k.position p e) operand
 
 -- ("!" | "~" | "-" | "+") unary
@@ -121,7 +121,7 @@ expression {f} c d = within f (always after_expr) (pair (levels false binary_lev
 -- ---- what `(` begins
 
 -- ")" unary, after `(` and a type
-unfoldable pub cast_to : Symbol → TypeName → Code Expr (terminal.Close ∷ []) (always word_tails) false
+unfoldable pub cast_to : Mark → TypeName → Code Expr (terminal.Close ∷ []) (always word_tails) false
 cast_to k t = skip terminal.Close (to (λ e. expr.Cast k.position t e) operand)
 
 -- an expression whose first operand is a conversion, after `(` and the conversion's type
@@ -129,19 +129,19 @@ unfoldable pub inside_expression : TypeName → Code Expr (terminal.Open ∷ [])
 inside_expression t = within _ (always after_expr) (pair (levels {f = terminal.Open ∷ []} true binary_levels (within (terminal.Open ∷ []) (always word_tails) (deeper (converted t)) refl (λ _. refl)) operand refl) (λ c. deeper (chosen c)) refl) refl (λ _. refl)
 
 -- the same and ")"
-unfoldable pub conversion_first : Symbol → TypeName → Code Expr (terminal.Open ∷ []) none false
+unfoldable pub conversion_first : Mark → TypeName → Code Expr (terminal.Open ∷ []) none false
 conversion_first k t = to (λ e. expr.Paren k.position e) (ended terminal.Close (inside_expression t) refl)
 
 -- a cast, or an expression in parentheses that begins with a conversion, after `(` and a type of one word
-unfoldable pub after_short_type : Symbol → TypeName → Code Expr (terminal.Close ∷ terminal.Open ∷ []) (always word_tails) false
+unfoldable pub after_short_type : Mark → TypeName → Code Expr (terminal.Close ∷ terminal.Open ∷ []) (always word_tails) false
 after_short_type k t = within _ _ (choice (cast_to k t) (conversion_first k t) refl) refl (λ _. refl)
 
 -- "long" ["int"] ")" unary, after `(` and the words up to the first `long`, of which u is the first
-unfoldable pub long_cast : Symbol → Symbol → TypeForm → TypeForm → Code Expr (terminal.Long ∷ []) (always word_tails) false
+unfoldable pub long_cast : Mark → Mark → TypeForm → TypeForm → Code Expr (terminal.Long ∷ []) (always word_tails) false
 long_cast k u bare full = pair (deeper (long_after bare full)) (λ f. cast_to k (named_type u f)) refl
 
 -- after `(` and `unsigned`
-unfoldable pub after_unsigned_cast : Symbol → Symbol → Code Expr (terminal.Close ∷ terminal.Open ∷ terminal.Int ∷ terminal.Long ∷ []) (always word_tails) false
+unfoldable pub after_unsigned_cast : Mark → Mark → Code Expr (terminal.Close ∷ terminal.Open ∷ terminal.Int ∷ terminal.Long ∷ []) (always word_tails) false
 after_unsigned_cast k u = within _ _
     (choice (pair (deeper (quoted terminal.Int)) (λ _. cast_to k (named_type u form.UnsignedInt)) refl)
     (choice (pair (deeper (quoted terminal.Long)) (λ _. long_cast k u form.UnsignedLongLong form.UnsignedLongLongInt) refl) (after_short_type k (named_type u form.Unsigned)) refl) refl) refl (λ _. refl)
@@ -154,11 +154,11 @@ unfoldable pub inner_plain : Code Expr begins_plain (always after_expr) false
 inner_plain = refer plain_name
 
 -- expr ")", after `(`, where the expression doesn't begin with a type
-unfoldable pub parenthesis : Symbol → Code Expr begins_plain none false
+unfoldable pub parenthesis : Mark → Code Expr begins_plain none false
 parenthesis k = to (λ e. expr.Paren k.position e) (ended terminal.Close inner_plain refl)
 
 -- after `(`
-unfoldable pub after_open : Symbol → Code Expr begins_expr_or_long (always word_tails) false
+unfoldable pub after_open : Mark → Code Expr begins_expr_or_long (always word_tails) false
 after_open k = within _ _ (choice (pair (deeper plain_type) (after_short_type k) refl)
     (choice (pair (deeper (quoted terminal.Unsigned)) (after_unsigned_cast k) refl)
     (choice (pair (deeper (quoted terminal.Long)) (λ u. long_cast k u form.LongLong form.LongLongInt) refl) (parenthesis k) refl) refl) refl) refl (λ _. refl)

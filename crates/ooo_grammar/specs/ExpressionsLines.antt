@@ -5,12 +5,12 @@ use Rattle.ooo_syntax.specs.declared.leaves.Word.{Word}
 use Rattle.ooo_syntax.specs.declared.leaves.TypeName.{TypeName}
 use Rattle.ooo_syntax.specs.declared.leaves.TypeForm.{TypeForm}
 use Rattle.ooo_syntax.specs.declared.expr.Expr.{Expr}
-use Rattle.ooo_syntax.specs.declared.symbol.Symbol.{Symbol}
+use Rattle.ooo_syntax.specs.declared.symbol.Mark.{Mark}
 use Rattle.ooo_syntax.specs.declared.leaves.TypeForm.TheVariants as form
 use Rattle.ooo_grammar.specs.Sets.{Terminals}
 use Rattle.ooo_grammar.specs.Names.{names, expr_name, plain_name, unary_name}
 use Rattle.ooo_syntax.specs.declared.expr.BinaryOp.{BinaryOp}
-use Rattle.ooo_grammar.specs.Combinators.{sample, Table, terminals_of}
+use Rattle.ooo_grammar.specs.Combinators.{mark_of, sample, Table, terminals_of}
 use Rattle.ooo_grammar.specs.Shapes.{Nothing, Token, Form, value_of, shape, t, line, one_of_these, opt, rep}
 use Rattle.ooo_grammar.specs.Expressions.{after_open, after_short_type, after_unsigned_cast, after_word, arguments, binary_levels, bracketed, cast_to, chosen, conversion, conversion_first, index, long_cast, member_call, named, numeral, parenthesis, plain_unary, prefixed, truth, unary, sum_levels}
 use Rattle.ooo_grammar.specs.Lexis.{literal, named_type, plain_type, word}
@@ -60,25 +60,25 @@ abbrev pub ChosenLine : Type 0
 ChosenLine = (c : Expr) → shape (chosen c) ≡ opt (t terminal.Question ∷ Form expr_name ∷ t terminal.Colon ∷ Form expr_name ∷ [])
 
 abbrev pub CastToLine : Type 0
-CastToLine = (k : Symbol) (n : TypeName) → shape (cast_to k n) ≡ line (t terminal.Close ∷ Form unary_name ∷ [])
+CastToLine = (k : Mark) (n : TypeName) → shape (cast_to k n) ≡ line (t terminal.Close ∷ Form unary_name ∷ [])
 
 abbrev pub AfterShortTypeLine : Type 0
-AfterShortTypeLine = (k : Symbol) (n : TypeName) → shape (after_short_type k n) ≡ one_of_these (shape (cast_to k n) ∷ shape (conversion_first k n) ∷ [])
+AfterShortTypeLine = (k : Mark) (n : TypeName) → shape (after_short_type k n) ≡ one_of_these (shape (cast_to k n) ∷ shape (conversion_first k n) ∷ [])
 
 abbrev pub LongCastLine : Type 0
-LongCastLine = (k u : Symbol) (a b : TypeForm) → shape (long_cast k u a b) ≡ line (t terminal.Long ∷ opt (t terminal.Int ∷ []) ∷ t terminal.Close ∷ Form unary_name ∷ [])
+LongCastLine = (k u : Mark) (a b : TypeForm) → shape (long_cast k u a b) ≡ line (t terminal.Long ∷ opt (t terminal.Int ∷ []) ∷ t terminal.Close ∷ Form unary_name ∷ [])
 
 abbrev pub AfterUnsignedCastLine : Type 0
-AfterUnsignedCastLine = (k u : Symbol) → shape (after_unsigned_cast k u) ≡ one_of_these (line (t terminal.Int ∷ shape (cast_to k (named_type u form.UnsignedInt)) ∷ []) ∷ line (t terminal.Long ∷ shape (long_cast k u form.UnsignedLongLong form.UnsignedLongLongInt) ∷ []) ∷ shape (after_short_type k (named_type u form.Unsigned)) ∷ [])
+AfterUnsignedCastLine = (k u : Mark) → shape (after_unsigned_cast k u) ≡ one_of_these (line (t terminal.Int ∷ shape (cast_to k (named_type u form.UnsignedInt)) ∷ []) ∷ line (t terminal.Long ∷ shape (long_cast k u form.UnsignedLongLong form.UnsignedLongLongInt) ∷ []) ∷ shape (after_short_type k (named_type u form.Unsigned)) ∷ [])
 
 abbrev pub ParenthesisLine : Type 0
-ParenthesisLine = (k : Symbol) → shape (parenthesis k) ≡ line (Form plain_name ∷ t terminal.Close ∷ [])
+ParenthesisLine = (k : Mark) → shape (parenthesis k) ≡ line (Form plain_name ∷ t terminal.Close ∷ [])
 
 abbrev pub AfterOpenLine : Type 0
-AfterOpenLine = (k : Symbol) → shape (after_open k) ≡ one_of_these (line (one_of_these (t terminal.Bool ∷ t terminal.Int ∷ []) ∷ shape (after_short_type k (value_of plain_type)) ∷ []) ∷ line (t terminal.Unsigned ∷ shape (after_unsigned_cast k (sample terminal.Unsigned)) ∷ []) ∷ line (t terminal.Long ∷ shape (long_cast k (sample terminal.Long) form.LongLong form.LongLongInt) ∷ []) ∷ shape (parenthesis k) ∷ [])
+AfterOpenLine = (k : Mark) → shape (after_open k) ≡ one_of_these (line (one_of_these (t terminal.Bool ∷ t terminal.Int ∷ []) ∷ shape (after_short_type k (value_of plain_type)) ∷ []) ∷ line (t terminal.Unsigned ∷ shape (after_unsigned_cast k (mark_of (sample terminal.Unsigned))) ∷ []) ∷ line (t terminal.Long ∷ shape (long_cast k (mark_of (sample terminal.Long)) form.LongLong form.LongLongInt) ∷ []) ∷ shape (parenthesis k) ∷ [])
 
 abbrev pub BracketedLine : Type 0
-BracketedLine = shape bracketed ≡ line (t terminal.Open ∷ shape (after_open (sample terminal.Open)) ∷ [])
+BracketedLine = shape bracketed ≡ line (t terminal.Open ∷ shape (after_open (mark_of (sample terminal.Open))) ∷ [])
 
 abbrev pub PlainUnaryLine : Type 0
 PlainUnaryLine = shape plain_unary ≡ one_of_these (shape prefixed ∷ shape bracketed ∷ shape numeral ∷ shape truth ∷ shape named ∷ [])

@@ -5,6 +5,7 @@ use Rattle.ooo_syntax.specs.declared.symbol.Symbol.{Symbol}
 use Rattle.ooo_grammar.specs.declared.limits.ReadError.{ReadError}
 use Rattle.ooo_grammar.specs.declared.limits.ReadError.TheVariants as error
 use Rattle.ooo_grammar.specs.declared.limits.Limits.{Limits}
+use Rattle.ooo_grammar.specs.declared.limits.TheConstants.{LEVEL_LIMIT, OPERATOR_LIMIT}
 use Rattle.ooo_grammar.specs.Forms.{Outcome, Got, Bad, Deep, Reader}
 use Rattle.ooo_grammar.specs.Sets.{Terminals}
 use Rattle.ooo_grammar.specs.Codes.{Code}
@@ -28,11 +29,11 @@ Gives o (Err e) = Stops o e
 
 -- how many operators one expression may hold
 abbrev pub operator_limit : ℕ
-operator_limit = 1024
+operator_limit = OPERATOR_LIMIT
 
 -- on how many levels a token may stand: outside of everything, and inside 64 things
 abbrev pub level_limit : ℕ
-level_limit = 65
+level_limit = LEVEL_LIMIT
 
 -- the room where an expression may hold so many operators
 abbrev pub room_at : Option ℕ → Room

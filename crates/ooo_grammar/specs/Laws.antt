@@ -1,8 +1,10 @@
 -- What a reader of a code is worth.
-use Rattle.std.specs.Prelude.{◌≡◌, ℕ, List, [], ◌∷◌, ◌++◌, Bool}
+use Rattle.std.specs.Prelude.{◌≡◌, ℕ, List, [], ◌∷◌, ◌++◌, Bool, map}
 use Rattle.ooo_syntax.specs.declared.symbol.Symbol.{Symbol}
 use Rattle.ooo_grammar.specs.Forms.{Outcome, Got, Bad, Deep}
-use Rattle.ooo_grammar.specs.Sets.{Terminals}
+use Rattle.ooo_syntax.specs.declared.leaves.TypeName.{TypeName}
+use Rattle.ooo_grammar.specs.Sets.{Terminals, anywhere}
+use Rattle.ooo_grammar.specs.Lexis.{type_name}
 use Rattle.ooo_grammar.specs.Roots.{Root, Tree, roots}
 use Rattle.ooo_grammar.specs.Codes.{Code}
 use Rattle.ooo_grammar.specs.Readings.{Room, free, form, reader, front}
@@ -58,6 +60,51 @@ pub record Decides_texts (x : Root) (n : ℕ) (room : Room) : Type 0 where
 
 abbrev pub Decided : Type 0
 Decided = (x : Root) (n : ℕ) (room : Room) → Decides_texts x n room
+
+-- what is spelled within limits, and what begins it
+pub record Keeps_limits (x : Root) (n : ℕ) (room : Room) : Type 0 where
+  -- it is spelled, and begun within the limits
+  pub derives : (ts : List Symbol) (a : Tree x) → form n room (roots x) ts a [] → Derives (roots x) ts a
+  pub begins : (ts : List Symbol) (a : Tree x) → form n room (roots x) ts a [] → front n room (roots x) ts
+  -- what a reader finds is spelled by the symbols before the rest
+  pub found : (ts rest : List Symbol) (a : Tree x) → reader n room (roots x) ts ≡ Got a rest → (read : List Symbol) × (ts ≡ read ++ rest) × form n room (roots x) read a []
+  -- a beginning within the limits is a beginning, and so are those of its own
+  pub free : (ts : List Symbol) → front n room (roots x) ts → Begins (roots x) ts
+  pub prefix : (before after : List Symbol) → front n room (roots x) (before ++ after) → front n room (roots x) before
+
+abbrev pub BeginsWithin : Type 0
+BeginsWithin = (x : Root) (n : ℕ) (room : Room) → Keeps_limits x n room
+
+-- trees and beginnings are the same wherever the bytes of the symbols stand in memory
+pub record Stays_anywhere (x : Root) (n : ℕ) (room : Room) : Type 0 where
+  pub spelled : (ts : List Symbol) (a : Tree x) → form n room (roots x) ts a [] → form n room (roots x) (map anywhere ts) a []
+  pub spells : (ts : List Symbol) (a : Tree x) → form n room (roots x) (map anywhere ts) a [] → form n room (roots x) ts a []
+  pub begun : (ts : List Symbol) → front n room (roots x) ts → front n room (roots x) (map anywhere ts)
+  pub begins : (ts : List Symbol) → front n room (roots x) (map anywhere ts) → front n room (roots x) ts
+
+abbrev pub IsAnywhere : Type 0
+IsAnywhere = (x : Root) (n : ℕ) (room : Room) → Stays_anywhere x n room
+
+-- so is a type
+pub record Types_stay (n : ℕ) (room : Room) : Type 0 where
+  pub spelled : (ts : List Symbol) (t : TypeName) → form n room type_name ts t [] → form n room type_name (map anywhere ts) t []
+  pub spells : (ts : List Symbol) (t : TypeName) → form n room type_name (map anywhere ts) t [] → form n room type_name ts t []
+
+abbrev pub TypesStay : Type 0
+TypesStay = (n : ℕ) (room : Room) → Types_stay n room
+
+-- what a reader of types finds in symbols is the type that they spell, and it finds each
+abbrev pub DecidesTypes : Type 0
+DecidesTypes = (n : ℕ) (room : Room) (ts : List Symbol) (t : TypeName) → (reader n room type_name ts ≡ Got t [] → form n room type_name ts t []) × (form n room type_name ts t [] → reader n room type_name ts ≡ Got t [])
+
+-- what a reader within limits may say of tokens excludes the rest
+pub record Outcomes_apart (x : Root) (n : ℕ) (room : Room) : Type 0 where
+  pub too_deep_once : (ts r s : List Symbol) → ExceedsAt n room (roots x) ts r → ExceedsAt n room (roots x) ts s → r ≡ s
+  pub refused_or_too_deep : (ts r s : List Symbol) → Refuses (roots x) ts r → Keeps n room (roots x) ts r → ExceedsAt n room (roots x) ts s → ⊥
+  pub spelled_or_too_deep : (ts rest : List Symbol) (a : Tree x) → form n room (roots x) ts a [] → ExceedsAt n room (roots x) ts rest → ⊥
+
+abbrev pub AreApart : Type 0
+AreApart = (x : Root) (n : ℕ) (room : Room) → Outcomes_apart x n room
 
 -- ---- the laws
 

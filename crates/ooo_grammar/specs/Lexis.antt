@@ -2,6 +2,7 @@
 use Rattle.std.specs.Prelude.{true, false, ℕ, List, [], ◌∷◌, Option, Some, None, refl, take, length, ◌-◌}
 use Rattle.ooo_lexer.specs.Texts.{unescaped}
 use Rattle.ooo_syntax.specs.declared.terminal.Terminal.TheVariants as terminal
+use Rattle.ooo_syntax.specs.declared.symbol.Mark.{Mark}
 use Rattle.ooo_syntax.specs.declared.symbol.Symbol.{Symbol}
 use Rattle.ooo_syntax.specs.declared.leaves.Word.{Word}
 use Rattle.ooo_syntax.specs.declared.leaves.Number.{Number}
@@ -11,7 +12,7 @@ use Rattle.ooo_syntax.specs.declared.leaves.TypeForm.TheVariants as form
 use Rattle.ooo_syntax.specs.declared.leaves.TypeName.{TypeName}
 use Rattle.ooo_grammar.specs.Names.{names, type_words}
 use Rattle.ooo_grammar.specs.Codes.{Code, choice, within}
-use Rattle.ooo_grammar.specs.Combinators.{none, always, one_of, quoted, skip, led, to, optional, or}
+use Rattle.ooo_grammar.specs.Combinators.{none, always, one_as, quoted, skip, led, to, optional, or}
 
 -- ---- words, numbers and texts
 
@@ -31,27 +32,27 @@ text_of k = record { value = unescaped (inside_quotes k.text.now); position = k.
 
 -- `notify`, `cancel` and `bind` are words of the model's own where they don't follow a dot
 unfoldable pub word : Code Word names none false
-word = to word_of (one_of terminal.Word (terminal.Notify ∷ terminal.Cancel ∷ terminal.Bind ∷ []))
+word = one_as word_of terminal.Word (terminal.Notify ∷ terminal.Cancel ∷ terminal.Bind ∷ []) (λ _. refl)
 
 -- after a dot, but for what `notify` and `cancel` have of their own
 unfoldable pub member_word : Code Word (terminal.Word ∷ terminal.Bind ∷ []) none false
-member_word = to word_of (one_of terminal.Word (terminal.Bind ∷ []))
+member_word = one_as word_of terminal.Word (terminal.Bind ∷ []) (λ _. refl)
 
 unfoldable pub event_word : Code Word (terminal.Notify ∷ terminal.Cancel ∷ []) none false
-event_word = to word_of (one_of terminal.Notify (terminal.Cancel ∷ []))
+event_word = one_as word_of terminal.Notify (terminal.Cancel ∷ []) (λ _. refl)
 
 unfoldable pub literal : Code Number (terminal.Number ∷ []) none false
-literal = to number_of (quoted terminal.Number)
+literal = one_as number_of terminal.Number [] (λ _. refl)
 
 unfoldable pub text : Code Text (terminal.Text ∷ []) none false
-text = to text_of (quoted terminal.Text)
+text = one_as text_of terminal.Text [] (λ _. refl)
 
 -- ---- types
 
-abbrev pub named_type : Symbol → TypeForm → TypeName
+abbrev pub named_type : Mark → TypeForm → TypeName
 named_type k f = record { form = f; position = k.position }
 
-abbrev pub with_int : TypeForm → TypeForm → Option Symbol → TypeForm
+abbrev pub with_int : TypeForm → TypeForm → Option Mark → TypeForm
 with_int bare full None = bare
 with_int bare full (Some k) = full
 

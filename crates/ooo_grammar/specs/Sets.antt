@@ -29,24 +29,29 @@ abbrev pub join : Bool → Terminals → Terminals → Terminals
 join false g f = f
 join true g f = f ++ g
 
--- a test that holds of these terminals alone
+-- the symbol, wherever its bytes stand in memory
+abbrev pub anywhere : Symbol → Symbol
+anywhere k = record k { text = record { ref_ptr = (0, 0); now = k.text.now } }
+
+-- a test that holds of these terminals alone, and doesn't ask where a symbol's bytes stand in memory
 pub record OfTerminals {X : Type 0} (test : Symbol → Option X) (terminals : Terminals) : Type 0 where
   pub same : (k : Symbol) → is_some (test k) ≡ in_set terminals k
+  pub anywhere : (k : Symbol) → test (anywhere k) ≡ test k
 
 -- ---- a token of these terminals
 
 abbrev pub some_if : {X : Type 0} → Bool → X → Option X
 some_if b x = if b then Some x else None
 
-abbrev pub of : Terminals → Symbol → Option Symbol
-of ms k = some_if (in_set ms k) k
+abbrev pub of : {X : Type 0} → (Symbol → X) → Terminals → Symbol → Option X
+of h ms k = some_if (in_set ms k) (h k)
 
 some_same : {X : Type 0} (b : Bool) (x : X) → is_some (some_if b x) ≡ b
 some_same true x = refl
 some_same false x = refl
 
-pub of_terminals : (ms : Terminals) → OfTerminals (of ms) ms
-of_terminals ms = record { same = λ k. some_same (in_set ms k) k }
+pub of_terminals : {X : Type 0} (h : Symbol → X) (ms : Terminals) → ((k : Symbol) → h (anywhere k) ≡ h k) → OfTerminals (of h ms) ms
+of_terminals h ms i = record { same = λ k. some_same (in_set ms k) (h k); anywhere = λ k. ap (λ x. some_if (in_set ms k) x) (i k) }
 
 -- ---- a table from terminals to values
 
@@ -74,7 +79,7 @@ table_same (r ∷ rs) n = at (number r.terminal == n) ∙ ap (λ b. (number r.te
     at false = refl
 
 pub table_of : {X : Type 0} (rs : List (Row X)) → OfTerminals (table_test rs) (table_terminals rs)
-table_of rs = record { same = λ k. table_same rs (number k.terminal) }
+table_of rs = record { same = λ k. table_same rs (number k.terminal); anywhere = λ k. refl }
 
 -- ---- sets within sets
 

@@ -1,7 +1,7 @@
 -- Times and events, and what `wait` and `next_trigger` wait for.
 use Rattle.std.specs.Prelude.{◌≡◌, true, false, List, [], ◌∷◌, ◌++◌, Option, Some, None, refl}
 use Rattle.ooo_syntax.specs.declared.terminal.Terminal.TheVariants as terminal
-use Rattle.ooo_syntax.specs.declared.symbol.Symbol.{Symbol}
+use Rattle.ooo_syntax.specs.declared.symbol.Mark.{Mark}
 use Rattle.ooo_syntax.specs.declared.leaves.Word.{Word}
 use Rattle.ooo_syntax.specs.declared.expr.BinaryOp.TheVariants as op
 use Rattle.ooo_syntax.specs.declared.expr.Expr.{Expr, Expr-F, fold-Expr}
@@ -31,7 +31,7 @@ unfoldable pub unit_of_time : Code Scale (terminals_of scale_table) none false
 unit_of_time = table scale_table
 
 -- expr "," scale, one level deeper
-unfoldable pub inner_amount : Symbol → Code TimeForm begins_expr none false
+unfoldable pub inner_amount : Mark → Code TimeForm begins_expr none false
 inner_amount k = pair inner_value (λ e. skip_inside terminal.Comma (to (λ u. time.Made k.position e u) (deeper unit_of_time))) refl
 
 -- "SC_ZERO_TIME" | "sc_time" "(" expr "," scale ")"

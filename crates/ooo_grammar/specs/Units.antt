@@ -1,7 +1,7 @@
 -- `sc_main` and whole texts.
 use Rattle.std.specs.Prelude.{true, false, [], ◌∷◌, Option, refl}
 use Rattle.ooo_syntax.specs.declared.terminal.Terminal.TheVariants as terminal
-use Rattle.ooo_syntax.specs.declared.symbol.Symbol.{Symbol}
+use Rattle.ooo_syntax.specs.declared.symbol.Mark.{Mark}
 use Rattle.ooo_syntax.specs.declared.leaves.Word.{Word}
 use Rattle.ooo_syntax.specs.declared.leaves.Number.{Number}
 use Rattle.ooo_syntax.specs.declared.unit.Library.{Library}
@@ -44,7 +44,7 @@ unfoldable pub main_channel : Code MainChannel (terminals_of channel_table) none
 main_channel = pair (table channel_table) (λ c. pair of_type (λ t. pair word (λ w. to (λ xs. record { channel = c; form = t; name = w; args = xs }) (ended terminal.Semicolon (optional some_args) refl)) refl) refl) refl
 
 -- "(" text "," time ")" ";"
-unfoldable pub clock_tail : Symbol → Word → Code MainItem (terminal.Open ∷ []) none false
+unfoldable pub clock_tail : Mark → Word → Code MainItem (terminal.Open ∷ []) none false
 clock_tail k w = ended terminal.Semicolon (in_parens (deeper (pair text (λ x. skip terminal.Comma (to (λ t. main_form.Clock k.position w x t) timed)) refl)) refl) refl
 
 -- "sc_clock" word "(" text "," time ")" ";"
@@ -61,7 +61,7 @@ main_item = choice (to (λ c. main_form.Constant c) constant) (choice (to (λ c.
     (pair word (λ w. choice (instance_of w) (to (λ b. main_form.Bind b) (binding w)) refl) refl) refl) refl) refl
 
 -- [time] ")", after `sc_start (`
-unfoldable pub start_tail : Symbol → Code StartForm (terminal.Close ∷ terminal.ScZeroTime ∷ terminal.ScTime ∷ begins_expr) none false
+unfoldable pub start_tail : Mark → Code StartForm (terminal.Close ∷ terminal.ScZeroTime ∷ terminal.ScTime ∷ begins_expr) none false
 start_tail k = choice (to (λ _. start_form.Open k.position) (quoted terminal.Close)) (to (λ t. start_form.Limited k.position t) (ended terminal.Close (deeper timed) refl)) refl
 
 -- "sc_start" "(" [time] ")" ";"

@@ -7,9 +7,9 @@ ghost use Rattle.ooo_grammar.specs.Lexis.{after_unsigned, event_word, inside_quo
 ghost use Rattle.ooo_grammar.specs.Gives.{Gives, reads_at};
 
 use crate::limits::{Limits, ReadError};
-use crate::tokens::{Read, next, one, starts};
+use crate::tokens::{Read, is_same, next, one, starts};
 use ooo_lexer::unescape;
-use ooo_syntax::{Number, Symbol, Terminal, Text, TypeForm, TypeName, Word};
+use ooo_syntax::{Mark, Number, Symbol, Terminal, Text, TypeForm, TypeName, Word};
 use ooo_value::Name;
 use std::alloc::{AllocError, Global};
 
@@ -164,7 +164,15 @@ pub fn read_event_word<'a>(
 pub fn read_literal<'a>(tokens: &'a [Symbol<'a>], limits: Limits) -> Read<'a, Number>
     ensures { Gives (reads_at limits literal tokens.now) result }
 {
-    let (token, rest) = one(tokens, Terminal::Number, limits)?;
+    let Some((token, rest)) = next(tokens) else {
+        return Err(ReadError::Syntax(tokens.len()));
+    };
+    if !is_same(Terminal::Number, token.terminal) {
+        return Err(ReadError::Syntax(tokens.len()));
+    }
+    if !limits.fit(token) {
+        return Err(ReadError::TooDeep(tokens.len()));
+    }
     Ok((
         Number {
             value: token.value,
@@ -179,7 +187,15 @@ pub fn read_literal<'a>(tokens: &'a [Symbol<'a>], limits: Limits) -> Read<'a, Nu
 pub fn read_text<'a>(alloc: Global, tokens: &'a [Symbol<'a>], limits: Limits) -> Read<'a, Text>
     ensures { Gives (reads_at limits text tokens.now) result }
 {
-    let (token, rest) = one(tokens, Terminal::Text, limits)?;
+    let Some((token, rest)) = next(tokens) else {
+        return Err(ReadError::Syntax(tokens.len()));
+    };
+    if !is_same(Terminal::Text, token.terminal) {
+        return Err(ReadError::Syntax(tokens.len()));
+    }
+    if !limits.fit(token) {
+        return Err(ReadError::TooDeep(tokens.len()));
+    }
     Ok((text_of(alloc, token)?, rest))
 }
 
@@ -245,12 +261,12 @@ pub fn read_plain_type<'a>(tokens: &'a [Symbol<'a>], limits: Limits) -> Read<'a,
 }
 
 /// A type by its first word.
-pub fn named_type(token: Symbol<'_>, form: TypeForm) -> TypeName
-    ensures { result ≡ named_type token.entry form }
+pub fn named_type(mark: Mark, form: TypeForm) -> TypeName
+    ensures { result ≡ named_type mark form }
 {
     TypeName {
         form,
-        position: token.position,
+        position: mark.position,
     }
 }
 

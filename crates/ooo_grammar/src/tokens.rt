@@ -3,11 +3,11 @@ ghost use Rattle.ooo_grammar.specs.Numbers.{number};
 ghost use Rattle.ooo_grammar.specs.Forms.{begins_with};
 ghost use Rattle.ooo_grammar.specs.Sets.{in_set};
 ghost use Rattle.ooo_grammar.specs.Codes.{deeper};
-ghost use Rattle.ooo_grammar.specs.Combinators.{quoted};
+ghost use Rattle.ooo_grammar.specs.Combinators.{mark_of, quoted};
 ghost use Rattle.ooo_grammar.specs.Gives.{Gives, reads_at};
 
 use crate::limits::{Limits, ReadError};
-use ooo_syntax::{Symbol, Terminal};
+use ooo_syntax::{Mark, Symbol, Terminal};
 
 /// A value that was read and the tokens after it, or why none was.
 pub type Read<'a, T> = Result<(T, &'a [Symbol<'a>]), ReadError>;
@@ -18,7 +18,7 @@ fn number_of(terminal: Terminal) -> u8
     terminal as u8
 }
 
-fn is_same(a: Terminal, b: Terminal) -> bool
+pub(crate) fn is_same(a: Terminal, b: Terminal) -> bool
     ensures { result ≡ (number a == number b) }
 {
     number_of(a) == number_of(b)
@@ -44,8 +44,16 @@ pub fn starts<'a>(tokens: &'a [Symbol<'a>], terminal: Terminal) -> bool
     }
 }
 
+fn mark_of(token: Symbol<'_>) -> Mark
+    ensures { result ≡ mark_of token.entry }
+{
+    Mark {
+        position: token.position,
+    }
+}
+
 /// Reads this token.
-pub fn one<'a>(tokens: &'a [Symbol<'a>], terminal: Terminal, limits: Limits) -> Read<'a, Symbol<'a>>
+pub fn one<'a>(tokens: &'a [Symbol<'a>], terminal: Terminal, limits: Limits) -> Read<'a, Mark>
     ensures { Gives (reads_at limits (quoted terminal) tokens.now) result }
 {
     match next(tokens) {
@@ -54,7 +62,7 @@ pub fn one<'a>(tokens: &'a [Symbol<'a>], terminal: Terminal, limits: Limits) -> 
                 return Err(ReadError::Syntax(tokens.len()));
             }
             if limits.fit(token) {
-                Ok((token, rest))
+                Ok((mark_of(token), rest))
             } else {
                 Err(ReadError::TooDeep(tokens.len()))
             }
@@ -69,7 +77,7 @@ pub fn one_inside<'a>(
     tokens: &'a [Symbol<'a>],
     terminal: Terminal,
     limits: Limits,
-) -> Read<'a, Symbol<'a>>
+) -> Read<'a, Mark>
     ensures { Gives (reads_at limits (deeper (quoted terminal)) tokens.now) result }
 {
     one(tokens, terminal, limits.inside())

@@ -29,7 +29,7 @@ pub use stat::{
     AssignOp, Awaited, Declarator, Event, ForStart, Local, PrintItem, Simple, Stat, StepOp, Target,
     TimeForm,
 };
-pub use symbol::Symbol;
+pub use symbol::{Mark, Symbol};
 pub use terminal::Terminal;
 pub use unit::{Library, Main, MainChannel, MainItem, MainValues, StartForm, Unit, UnitItem};
 pub use words::{is_reserved, terminal_of};

@@ -2,6 +2,13 @@ use crate::terminal::Terminal;
 use ooo_lexer::Position;
 use ooo_value::Value;
 
+/// A word or a sign of the grammar that was read.
+#[derive(Clone, Copy)]
+pub struct Mark {
+    /// Where it stands.
+    pub position: Position,
+}
+
 /// A token as the grammar sees it. The pairs `std ::` and `sc_core ::` before a word belong to the word's symbol.
 #[derive(Clone, Copy)]
 pub struct Symbol<'a> {
