@@ -1,0 +1,3 @@
+pub mod Awaits
+pub mod Blocks
+pub mod Elses

@@ -1,0 +1,33 @@
+//! Reads times, events and statements of the grammar.
+//!
+//! Each reader answers what the code in its contract does: the tree and the tokens after it, or where the code
+//! refuses the tokens. Only running out of memory stands beside that.
+#![tactic(auto)]
+
+// What is read while values that were read before are kept: where nothing is, they go.
+macro_rules! keeping {
+    ($($kept:ident),+; $read:expr) => {
+        match $read {
+            Ok(found) => found,
+            Err(error) => {
+                $(crate::keeping::discard($kept);)+
+                return Err(error);
+            }
+        }
+    };
+}
+
+mod events;
+mod keeping;
+mod locals;
+mod prints;
+mod signs;
+mod simple;
+mod statements;
+mod times;
+mod waits;
+
+pub use events::read_event;
+pub use signs::{begins_with_named_time, begins_with_unit_of_time};
+pub use statements::{followed, read_body};
+pub use times::{read_named_time, read_timed, read_timed_inside, read_unit_of_time};

@@ -1,0 +1,88 @@
+ghost use Rattle.std.specs.Prelude.{refl};
+ghost use Rattle.ooo_grammar.specs.Combinators.{separated};
+ghost use Rattle.ooo_grammar.specs.Statements.{declarator, local};
+ghost use Rattle.ooo_grammar.specs.Gives.{Gives, reads_at};
+ghost use Rattle.ooo_statements.specs.Loops.{next_item};
+
+use ooo_exprs::read_value;
+use ooo_grammar::{Limits, Read, one, read_type, read_word, starts};
+use ooo_syntax::{Declarator, Local, Symbol, Terminal};
+use sqlite_items::Items;
+use std::alloc::Global;
+
+// A local's name and its initial value or nothing.
+#[tactic(auto, using(ooo_grammar::specs::Steps::steps), unfolding(ooo_grammar::specs::Statements::declarator))]
+fn read_declarator<'a>(
+    alloc: Global,
+    tokens: &'a [Symbol<'a>],
+    limits: Limits,
+) -> Read<'a, Declarator>
+    ensures { Gives (reads_at limits declarator tokens.now) result }
+{
+    let (name, rest) = read_word(alloc, tokens, limits)?;
+    if !starts(rest, Terminal::Assign) {
+        return Ok((Declarator { name, value: None }, rest));
+    }
+    let (_, rest) = one(rest, Terminal::Assign, limits)?;
+    let (value, rest) = read_value(alloc, rest, limits)?;
+    Ok((
+        Declarator {
+            name,
+            value: Some(value),
+        },
+        rest,
+    ))
+}
+
+// A comma and one more name.
+#[tactic(auto, using(ooo_grammar::specs::Steps::steps))]
+fn read_next_declarator<'a>(
+    alloc: Global,
+    mut list: Items<Declarator>,
+    tokens: &'a [Symbol<'a>],
+    limits: Limits,
+) -> Read<'a, Items<Declarator>>
+    ensures { Gives (next_item limits Terminal.Comma declarator list tokens.now) result }
+{
+    let (_, rest) = one(tokens, Terminal::Comma, limits)?;
+    let (more, rest) = read_declarator(alloc, rest, limits)?;
+    list.push(more)?;
+    Ok((list, rest))
+}
+
+// Names and commas between them.
+#[tactic(auto, using(ooo_grammar::specs::Steps::steps))]
+fn read_declarators<'a>(
+    alloc: Global,
+    tokens: &'a [Symbol<'a>],
+    limits: Limits,
+) -> Read<'a, Items<Declarator>>
+    ensures { Gives (reads_at limits (separated Terminal.Comma declarator refl) tokens.now) result }
+{
+    let (first, mut rest) = read_declarator(alloc, tokens, limits)?;
+    let mut list = Items::new(alloc);
+    list.push(first)?;
+    'turns: for _turn in 0..rest.len() {
+        if !starts(rest, Terminal::Comma) {
+            return Ok((list, rest));
+        }
+        let (more, after) = read_next_declarator(alloc, list, rest, limits)?;
+        list = more;
+        rest = after;
+    }
+    Ok((list, rest))
+}
+
+// A type and the names of locals.
+#[tactic(auto, using(ooo_grammar::specs::Steps::steps), unfolding(ooo_grammar::specs::Statements::local))]
+pub(crate) fn read_local<'a>(
+    alloc: Global,
+    tokens: &'a [Symbol<'a>],
+    limits: Limits,
+) -> Read<'a, Local>
+    ensures { Gives (reads_at limits local tokens.now) result }
+{
+    let (form, rest) = read_type(tokens, limits)?;
+    let (names, rest) = read_declarators(alloc, rest, limits)?;
+    Ok((Local { form, names }, rest))
+}

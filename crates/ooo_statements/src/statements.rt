@@ -1,0 +1,623 @@
+ghost use Rattle.std.specs.Prelude.{◌≡◌, [], IfOk};
+ghost use Rattle.ooo_grammar.specs.Codes.{deeper, nothing};
+ghost use Rattle.ooo_grammar.specs.Combinators.{optional, quoted, to};
+ghost use Rattle.ooo_grammar.specs.Names.{ends_open};
+ghost use Rattle.ooo_grammar.specs.Statements.{after_condition, after_do, after_while, block_stat, body, break_stat, condition, continue_stat, do_stat, else_part, empty_stat, for_body, for_first, for_start, for_stat, for_step, for_test, if_stat, inner_stat, local_stat, maybe_other, other_stat, parens, return_stat, simple, simple_stat, stat, stats, while_stat};
+ghost use Rattle.ooo_grammar.specs.Gives.{Gives, reads_at};
+ghost use Rattle.ooo_statements.specs.Loops.{next_stat};
+ghost use Rattle.ooo_statements.specs.Parts.{closed_do, closed_step, ended_start, ended_value, opened_start};
+
+use crate::keeping::discard;
+use crate::locals::read_local;
+use crate::signs::{
+    begins_with_expression, begins_with_for_start, begins_with_simple, begins_with_statement,
+};
+use crate::simple::read_simple;
+use ooo_exprs::{read_inner_value, read_value};
+use ooo_grammar::{Limits, Read, ReadError, begins_with_type, one, one_inside, starts};
+use ooo_lexer::Position;
+use ooo_syntax::{Expr, ForStart, Simple, Stat, Symbol, Terminal};
+use sqlite_items::{Boxed, Items};
+use std::alloc::{AllocError, Global};
+
+/// Reads a token after what was found already, and hands that back.
+#[tactic(auto, using(ooo_grammar::specs::Steps::steps))]
+pub fn followed<'a, T: Drop>(
+    found: T,
+    terminal: Terminal,
+    tokens: &'a [Symbol<'a>],
+    limits: Limits,
+) -> Read<'a, T>
+    ensures { Gives (reads_at limits (to (λ _. found) (quoted terminal)) tokens.now) result }
+{
+    let (_, rest) = one(tokens, terminal, limits)?;
+    Ok((found, rest))
+}
+
+// An expression in parentheses.
+#[tactic(auto, using(ooo_grammar::specs::Steps::steps), unfolding(ooo_grammar::specs::Statements::parens))]
+fn read_parens<'a>(alloc: Global, tokens: &'a [Symbol<'a>], limits: Limits) -> Read<'a, Expr>
+    ensures { Gives (reads_at limits parens tokens.now) result }
+{
+    let (_, rest) = one(tokens, Terminal::Open, limits)?;
+    let (test, rest) = read_inner_value(alloc, rest, limits)?;
+    let (_, rest) = one(rest, Terminal::Close, limits)?;
+    Ok((test, rest))
+}
+
+// The same, one level deeper.
+#[tactic(auto, using(ooo_grammar::specs::Steps::deeper_gives), unfolding(ooo_grammar::specs::Statements::condition))]
+fn read_condition<'a>(alloc: Global, tokens: &'a [Symbol<'a>], limits: Limits) -> Read<'a, Expr>
+    ensures { Gives (reads_at limits condition tokens.now) result }
+{
+    read_parens(alloc, tokens, limits.inside())
+}
+
+// Whether an `else` could still be read as part of the statement.
+#[tactic(auto, unfolding(ooo_grammar::specs::Names::ends_open))]
+fn is_open(of: &Stat) -> bool
+    ensures { result ≡ ends_open of.now }
+{
+    match of {
+        Stat::If(_, _, _, None) => true,
+        Stat::If(_, _, _, Some(other)) => is_open(other.get()),
+        Stat::While(_, _, inner) => is_open(inner.get()),
+        Stat::For(_, _, _, _, inner) => is_open(inner.get()),
+        _ => false,
+    }
+}
+
+// ---- statements that hold no other
+
+// `;`
+#[tactic(auto, using(ooo_grammar::specs::Steps::steps), unfolding(ooo_grammar::specs::Statements::empty_stat))]
+fn read_empty<'a>(tokens: &'a [Symbol<'a>], limits: Limits) -> Read<'a, Stat>
+    ensures { Gives (reads_at limits empty_stat tokens.now) result }
+{
+    let (head, rest) = one(tokens, Terminal::Semicolon, limits)?;
+    Ok((Stat::Empty(head.position), rest))
+}
+
+// `break ;`
+#[tactic(auto, using(ooo_grammar::specs::Steps::steps), unfolding(ooo_grammar::specs::Statements::break_stat))]
+fn read_break<'a>(tokens: &'a [Symbol<'a>], limits: Limits) -> Read<'a, Stat>
+    ensures { Gives (reads_at limits break_stat tokens.now) result }
+{
+    let (head, rest) = one(tokens, Terminal::Break, limits)?;
+    let (_, rest) = one(rest, Terminal::Semicolon, limits)?;
+    Ok((Stat::Break(head.position), rest))
+}
+
+// `continue ;`
+#[tactic(auto, using(ooo_grammar::specs::Steps::steps), unfolding(ooo_grammar::specs::Statements::continue_stat))]
+fn read_continue<'a>(tokens: &'a [Symbol<'a>], limits: Limits) -> Read<'a, Stat>
+    ensures { Gives (reads_at limits continue_stat tokens.now) result }
+{
+    let (head, rest) = one(tokens, Terminal::Continue, limits)?;
+    let (_, rest) = one(rest, Terminal::Semicolon, limits)?;
+    Ok((Stat::Continue(head.position), rest))
+}
+
+// An expression or nothing, and `;`.
+#[tactic(auto, using(ooo_grammar::specs::Steps::steps))]
+fn read_ended_value<'a>(
+    alloc: Global,
+    tokens: &'a [Symbol<'a>],
+    limits: Limits,
+) -> Read<'a, Option<Expr>>
+    ensures { Gives (reads_at limits ended_value tokens.now) result }
+{
+    if !begins_with_expression(tokens) {
+        let (_, rest) = one(tokens, Terminal::Semicolon, limits)?;
+        return Ok((None, rest));
+    }
+    let (found, rest) = read_value(alloc, tokens, limits)?;
+    let (_, rest) = one(rest, Terminal::Semicolon, limits)?;
+    Ok((Some(found), rest))
+}
+
+// `return`, an expression or nothing, and `;`.
+#[tactic(auto, using(ooo_grammar::specs::Steps::steps), unfolding(ooo_grammar::specs::Statements::return_stat))]
+fn read_return<'a>(alloc: Global, tokens: &'a [Symbol<'a>], limits: Limits) -> Read<'a, Stat>
+    ensures { Gives (reads_at limits return_stat tokens.now) result }
+{
+    let (head, rest) = one(tokens, Terminal::Return, limits)?;
+    let (found, rest) = read_ended_value(alloc, rest, limits)?;
+    Ok((Stat::Return(head.position, found), rest))
+}
+
+// Locals and `;`.
+#[tactic(auto, using(ooo_grammar::specs::Steps::steps), unfolding(ooo_grammar::specs::Statements::local_stat))]
+fn read_local_stat<'a>(alloc: Global, tokens: &'a [Symbol<'a>], limits: Limits) -> Read<'a, Stat>
+    ensures { Gives (reads_at limits local_stat tokens.now) result }
+{
+    let (locals, rest) = read_local(alloc, tokens, limits)?;
+    let (_, rest) = one(rest, Terminal::Semicolon, limits)?;
+    Ok((Stat::Local(locals), rest))
+}
+
+// A statement that begins with a word or a sign, and `;`.
+#[tactic(auto, using(ooo_grammar::specs::Steps::steps), unfolding(ooo_grammar::specs::Statements::simple_stat))]
+fn read_simple_stat<'a>(alloc: Global, tokens: &'a [Symbol<'a>], limits: Limits) -> Read<'a, Stat>
+    ensures { Gives (reads_at limits simple_stat tokens.now) result }
+{
+    let (found, rest) = read_simple(alloc, tokens, limits)?;
+    let (found, rest) = followed(found, Terminal::Semicolon, rest, limits)?;
+    Ok((Stat::Simple(found), rest))
+}
+
+// ---- the parts of a `for`
+
+// What a `for` begins with.
+#[tactic(auto, using(ooo_grammar::specs::Steps::steps), unfolding(ooo_grammar::specs::Statements::for_start))]
+fn read_for_start<'a>(alloc: Global, tokens: &'a [Symbol<'a>], limits: Limits) -> Read<'a, ForStart>
+    ensures { Gives (reads_at limits for_start tokens.now) result }
+{
+    if begins_with_type(tokens) {
+        let (locals, rest) = read_local(alloc, tokens, limits)?;
+        return Ok((ForStart::Local(locals), rest));
+    }
+    let (found, rest) = read_simple(alloc, tokens, limits)?;
+    Ok((ForStart::Simple(found), rest))
+}
+
+// What a `for` begins with or nothing, and `;`.
+#[tactic(auto, using(ooo_grammar::specs::Steps::steps))]
+fn read_ended_start<'a>(
+    alloc: Global,
+    tokens: &'a [Symbol<'a>],
+    limits: Limits,
+) -> Read<'a, Option<ForStart>>
+    ensures { Gives (reads_at limits ended_start tokens.now) result }
+{
+    if !begins_with_for_start(tokens) {
+        let (_, rest) = one(tokens, Terminal::Semicolon, limits)?;
+        return Ok((None, rest));
+    }
+    let (found, rest) = read_for_start(alloc, tokens, limits)?;
+    followed(Some(found), Terminal::Semicolon, rest, limits)
+}
+
+// The same, one level deeper.
+#[tactic(auto, using(ooo_grammar::specs::Steps::deeper_gives))]
+fn read_ended_start_inside<'a>(
+    alloc: Global,
+    tokens: &'a [Symbol<'a>],
+    limits: Limits,
+) -> Read<'a, Option<ForStart>>
+    ensures { Gives (reads_at limits (deeper ended_start) tokens.now) result }
+{
+    read_ended_start(alloc, tokens, limits.inside())
+}
+
+// `(` and what a `for` begins with, where `(` stands inside the `for`.
+#[tactic(auto, using(ooo_grammar::specs::Steps::steps))]
+fn read_opened_start<'a>(
+    alloc: Global,
+    tokens: &'a [Symbol<'a>],
+    limits: Limits,
+) -> Read<'a, Option<ForStart>>
+    ensures { Gives (reads_at limits opened_start tokens.now) result }
+{
+    let (_, rest) = one(tokens, Terminal::Open, limits)?;
+    read_ended_start_inside(alloc, rest, limits)
+}
+
+// The first part of a `for`, with its `(` and `;`.
+#[tactic(auto, using(ooo_grammar::specs::Steps::deeper_gives), unfolding(ooo_grammar::specs::Statements::for_first))]
+fn read_for_first<'a>(
+    alloc: Global,
+    tokens: &'a [Symbol<'a>],
+    limits: Limits,
+) -> Read<'a, Option<ForStart>>
+    ensures { Gives (reads_at limits for_first tokens.now) result }
+{
+    read_opened_start(alloc, tokens, limits.inside())
+}
+
+// An expression or nothing and `;`, one level deeper.
+#[tactic(auto, using(ooo_grammar::specs::Steps::deeper_gives))]
+fn read_ended_value_inside<'a>(
+    alloc: Global,
+    tokens: &'a [Symbol<'a>],
+    limits: Limits,
+) -> Read<'a, Option<Expr>>
+    ensures { Gives (reads_at limits (deeper ended_value) tokens.now) result }
+{
+    read_ended_value(alloc, tokens, limits.inside())
+}
+
+// The test of a `for` with its `;`, inside the `for` and its parentheses.
+#[tactic(auto, using(ooo_grammar::specs::Steps::deeper_gives), unfolding(ooo_grammar::specs::Statements::for_test))]
+fn read_for_test<'a>(
+    alloc: Global,
+    tokens: &'a [Symbol<'a>],
+    limits: Limits,
+) -> Read<'a, Option<Expr>>
+    ensures { Gives (reads_at limits for_test tokens.now) result }
+{
+    read_ended_value_inside(alloc, tokens, limits.inside())
+}
+
+// A statement without its `;`, or nothing.
+#[tactic(auto, using(ooo_grammar::specs::Steps::steps))]
+fn read_optional_simple<'a>(
+    alloc: Global,
+    tokens: &'a [Symbol<'a>],
+    limits: Limits,
+) -> Read<'a, Option<Simple>>
+    ensures { Gives (reads_at limits (optional simple) tokens.now) result }
+{
+    if !begins_with_simple(tokens) {
+        return Ok((None, tokens));
+    }
+    let (found, rest) = read_simple(alloc, tokens, limits)?;
+    Ok((Some(found), rest))
+}
+
+// The same, one level deeper.
+#[tactic(auto, using(ooo_grammar::specs::Steps::deeper_gives))]
+fn read_optional_simple_inside<'a>(
+    alloc: Global,
+    tokens: &'a [Symbol<'a>],
+    limits: Limits,
+) -> Read<'a, Option<Simple>>
+    ensures { Gives (reads_at limits (deeper (optional simple)) tokens.now) result }
+{
+    read_optional_simple(alloc, tokens, limits.inside())
+}
+
+// The same and `)`.
+#[tactic(auto, using(ooo_grammar::specs::Steps::steps))]
+fn read_closed_step<'a>(
+    alloc: Global,
+    tokens: &'a [Symbol<'a>],
+    limits: Limits,
+) -> Read<'a, Option<Simple>>
+    ensures { Gives (reads_at limits closed_step tokens.now) result }
+{
+    let (found, rest) = read_optional_simple_inside(alloc, tokens, limits)?;
+    followed(found, Terminal::Close, rest, limits)
+}
+
+// The last part of a `for` with its `)`.
+#[tactic(auto, using(ooo_grammar::specs::Steps::deeper_gives), unfolding(ooo_grammar::specs::Statements::for_step))]
+fn read_for_step<'a>(
+    alloc: Global,
+    tokens: &'a [Symbol<'a>],
+    limits: Limits,
+) -> Read<'a, Option<Simple>>
+    ensures { Gives (reads_at limits for_step tokens.now) result }
+{
+    read_closed_step(alloc, tokens, limits.inside())
+}
+
+// ---- the test of a `do`
+
+fn do_of(alloc: Global, at: Position, inner: Stat, test: Expr) -> Result<Stat, AllocError>
+    ensures { IfOk result (λ s. s ≡ Stat.Do at inner test) }
+{
+    Ok(Stat::Do(at, Boxed::new(alloc, inner)?, test))
+}
+
+// `while`, an expression in parentheses and `;`, after the statement of a `do`.
+#[tactic(auto, using(ooo_grammar::specs::Steps::steps), unfolding(ooo_grammar::specs::Statements::parens))]
+fn read_closed_do<'a>(
+    alloc: Global,
+    at: Position,
+    inner: Stat,
+    tokens: &'a [Symbol<'a>],
+    limits: Limits,
+) -> Read<'a, Stat>
+    ensures { Gives (reads_at limits (closed_do at inner) tokens.now) result }
+{
+    let (_, rest) = keeping!(inner; one(tokens, Terminal::While, limits));
+    let (test, rest) = keeping!(inner; read_parens(alloc, rest, limits));
+    let (_, rest) = keeping!(inner, test; one(rest, Terminal::Semicolon, limits));
+    Ok((do_of(alloc, at, inner, test)?, rest))
+}
+
+// The same, where it stands inside the `do`.
+#[tactic(auto, using(ooo_grammar::specs::Steps::deeper_gives), unfolding(ooo_grammar::specs::Statements::after_do))]
+fn read_after_do<'a>(
+    alloc: Global,
+    at: Position,
+    inner: Stat,
+    tokens: &'a [Symbol<'a>],
+    limits: Limits,
+) -> Read<'a, Stat>
+    ensures { Gives (reads_at limits (after_do at inner) tokens.now) result }
+{
+    read_closed_do(alloc, at, inner, tokens, limits.inside())
+}
+
+// ---- statements that hold others
+
+// A statement inside another.
+#[cycle(statement)]
+#[tactic(auto, using(ooo_grammar::specs::Steps::steps), unfolding(ooo_grammar::specs::Statements::inner_stat))]
+fn read_inner_stat<'a>(alloc: Global, tokens: &'a [Symbol<'a>], limits: Limits) -> Read<'a, Stat>
+    ensures { Gives (reads_at limits inner_stat tokens.now) result }
+{
+    if limits.levels > 0 {
+        return read_stat(alloc, tokens, limits.inside());
+    }
+    if begins_with_statement(tokens) {
+        return Err(ReadError::TooDeep(tokens.len()));
+    }
+    Err(ReadError::Syntax(tokens.len()))
+}
+
+// One more statement.
+#[cycle(statement)]
+#[tactic(auto, using(ooo_grammar::specs::Steps::steps))]
+fn read_next_stat<'a>(
+    alloc: Global,
+    mut list: Items<Stat>,
+    tokens: &'a [Symbol<'a>],
+    limits: Limits,
+) -> Read<'a, Items<Stat>>
+    ensures { Gives (next_stat limits list tokens.now) result }
+{
+    let (more, rest) = read_inner_stat(alloc, tokens, limits)?;
+    list.push(more)?;
+    Ok((list, rest))
+}
+
+// No statement yet.
+fn read_none<'a>(alloc: Global, tokens: &'a [Symbol<'a>], limits: Limits) -> Read<'a, Items<Stat>>
+    ensures { Gives (reads_at limits (nothing []) tokens.now) result }
+{
+    Ok((Items::new(alloc), tokens))
+}
+
+// Statements.
+#[cycle(statement)]
+#[tactic(auto, using(ooo_grammar::specs::Steps::steps), unfolding(ooo_grammar::specs::Statements::stats))]
+fn read_stats<'a>(alloc: Global, tokens: &'a [Symbol<'a>], limits: Limits) -> Read<'a, Items<Stat>>
+    ensures { Gives (reads_at limits stats tokens.now) result }
+{
+    let (mut list, mut rest) = read_none(alloc, tokens, limits)?;
+    'turns: for _turn in 0..rest.len() {
+        if !begins_with_statement(rest) {
+            return Ok((list, rest));
+        }
+        let (more, after) = read_next_stat(alloc, list, rest, limits)?;
+        list = more;
+        rest = after;
+    }
+    Ok((list, rest))
+}
+
+// Statements in braces, as a statement.
+#[cycle(statement)]
+#[tactic(auto, using(ooo_grammar::specs::Steps::steps), unfolding(ooo_grammar::specs::Statements::block_stat))]
+fn read_block<'a>(alloc: Global, tokens: &'a [Symbol<'a>], limits: Limits) -> Read<'a, Stat>
+    ensures { Gives (reads_at limits block_stat tokens.now) result }
+{
+    let (head, rest) = one(tokens, Terminal::OpenBrace, limits)?;
+    let (list, rest) = read_stats(alloc, rest, limits)?;
+    let (_, rest) = one(rest, Terminal::CloseBrace, limits)?;
+    Ok((Stat::Block(head.position, list), rest))
+}
+
+// `else` and its statement.
+#[cycle(statement)]
+#[tactic(auto, using(ooo_grammar::specs::Steps::steps), unfolding(ooo_grammar::specs::Statements::other_stat))]
+fn read_other<'a>(alloc: Global, tokens: &'a [Symbol<'a>], limits: Limits) -> Read<'a, Stat>
+    ensures { Gives (reads_at limits other_stat tokens.now) result }
+{
+    let (_, rest) = one_inside(tokens, Terminal::Else, limits)?;
+    read_inner_stat(alloc, rest, limits)
+}
+
+// The same or nothing.
+#[cycle(statement)]
+#[tactic(auto, using(ooo_grammar::specs::Steps::steps), unfolding(ooo_grammar::specs::Statements::maybe_other))]
+fn read_maybe_other<'a>(
+    alloc: Global,
+    tokens: &'a [Symbol<'a>],
+    limits: Limits,
+) -> Read<'a, Option<Boxed<Stat>>>
+    ensures { Gives (reads_at limits maybe_other tokens.now) result }
+{
+    if !starts(tokens, Terminal::Else) {
+        return Ok((None, tokens));
+    }
+    let (other, rest) = read_other(alloc, tokens, limits)?;
+    Ok((Some(Boxed::new(alloc, other)?), rest))
+}
+
+// What may follow the first statement of an `if`, to which an `else` could still belong or not.
+#[cycle(statement)]
+#[tactic(auto, using(crate::proofs::Elses::else_open, crate::proofs::Elses::else_gives))]
+fn read_else_part<'a>(
+    alloc: Global,
+    dangling: bool,
+    tokens: &'a [Symbol<'a>],
+    limits: Limits,
+) -> Read<'a, Option<Boxed<Stat>>>
+    ensures { Gives (reads_at limits (else_part dangling) tokens.now) result }
+{
+    if dangling {
+        return Ok((None, tokens));
+    }
+    read_maybe_other(alloc, tokens, limits)
+}
+
+fn if_of(
+    alloc: Global,
+    at: Position,
+    test: Expr,
+    yes: Stat,
+    no: Option<Boxed<Stat>>,
+) -> Result<Stat, AllocError>
+    ensures { IfOk result (λ s. s ≡ Stat.If at test yes no) }
+{
+    Ok(Stat::If(at, test, Boxed::new(alloc, yes)?, no))
+}
+
+// The statement of an `if` and its `else`, after the condition.
+#[cycle(statement)]
+#[tactic(auto, using(ooo_grammar::specs::Steps::steps), unfolding(ooo_grammar::specs::Statements::after_condition))]
+fn read_after_condition<'a>(
+    alloc: Global,
+    at: Position,
+    test: Expr,
+    tokens: &'a [Symbol<'a>],
+    limits: Limits,
+) -> Read<'a, Stat>
+    ensures { Gives (reads_at limits (after_condition at test) tokens.now) result }
+{
+    let (yes, rest) = keeping!(test; read_inner_stat(alloc, tokens, limits));
+    let dangling = is_open(&yes);
+    let (no, rest) = keeping!(test, yes; read_else_part(alloc, dangling, rest, limits));
+    Ok((if_of(alloc, at, test, yes, no)?, rest))
+}
+
+// `if`, its condition, its statement and its `else`.
+#[cycle(statement)]
+#[tactic(auto, using(ooo_grammar::specs::Steps::steps), unfolding(ooo_grammar::specs::Statements::if_stat))]
+fn read_if<'a>(alloc: Global, tokens: &'a [Symbol<'a>], limits: Limits) -> Read<'a, Stat>
+    ensures { Gives (reads_at limits if_stat tokens.now) result }
+{
+    let (head, rest) = one(tokens, Terminal::If, limits)?;
+    let (test, rest) = read_condition(alloc, rest, limits)?;
+    read_after_condition(alloc, head.position, test, rest, limits)
+}
+
+fn while_of(alloc: Global, at: Position, test: Expr, inner: Stat) -> Result<Stat, AllocError>
+    ensures { IfOk result (λ s. s ≡ Stat.While at test inner) }
+{
+    Ok(Stat::While(at, test, Boxed::new(alloc, inner)?))
+}
+
+// The statement of a `while`.
+#[cycle(statement)]
+#[tactic(auto, using(ooo_grammar::specs::Steps::steps), unfolding(ooo_grammar::specs::Statements::after_while))]
+fn read_after_while<'a>(
+    alloc: Global,
+    at: Position,
+    test: Expr,
+    tokens: &'a [Symbol<'a>],
+    limits: Limits,
+) -> Read<'a, Stat>
+    ensures { Gives (reads_at limits (after_while at test) tokens.now) result }
+{
+    let (inner, rest) = keeping!(test; read_inner_stat(alloc, tokens, limits));
+    Ok((while_of(alloc, at, test, inner)?, rest))
+}
+
+// `while`, its condition and its statement.
+#[cycle(statement)]
+#[tactic(auto, using(ooo_grammar::specs::Steps::steps), unfolding(ooo_grammar::specs::Statements::while_stat))]
+fn read_while<'a>(alloc: Global, tokens: &'a [Symbol<'a>], limits: Limits) -> Read<'a, Stat>
+    ensures { Gives (reads_at limits while_stat tokens.now) result }
+{
+    let (head, rest) = one(tokens, Terminal::While, limits)?;
+    let (test, rest) = read_condition(alloc, rest, limits)?;
+    read_after_while(alloc, head.position, test, rest, limits)
+}
+
+// `do`, its statement and its test.
+#[cycle(statement)]
+#[tactic(auto, using(ooo_grammar::specs::Steps::steps), unfolding(ooo_grammar::specs::Statements::do_stat))]
+fn read_do<'a>(alloc: Global, tokens: &'a [Symbol<'a>], limits: Limits) -> Read<'a, Stat>
+    ensures { Gives (reads_at limits do_stat tokens.now) result }
+{
+    let (head, rest) = one(tokens, Terminal::Do, limits)?;
+    let (inner, rest) = read_inner_stat(alloc, rest, limits)?;
+    read_after_do(alloc, head.position, inner, rest, limits)
+}
+
+// The statement of a `for`.
+#[cycle(statement)]
+#[tactic(auto, using(ooo_grammar::specs::Steps::steps), unfolding(ooo_grammar::specs::Statements::for_body))]
+fn read_for_body<'a>(
+    alloc: Global,
+    at: Position,
+    parts: (Option<ForStart>, Option<Expr>, Option<Simple>),
+    tokens: &'a [Symbol<'a>],
+    limits: Limits,
+) -> Read<'a, Stat>
+    ensures { Gives (reads_at limits (for_body at parts.0 parts.1 parts.2) tokens.now) result }
+{
+    let (inner, rest) = keeping!(parts; read_inner_stat(alloc, tokens, limits));
+    match Boxed::new(alloc, inner) {
+        Ok(inner) => {
+            let (start, test, step) = parts;
+            Ok((Stat::For(at, start, test, step, inner), rest))
+        }
+        Err(_) => {
+            discard(parts);
+            Err(ReadError::OutOfMemory)
+        }
+    }
+}
+
+// `for`, its three parts and its statement.
+#[cycle(statement)]
+#[tactic(auto, using(ooo_grammar::specs::Steps::steps), unfolding(ooo_grammar::specs::Statements::for_stat))]
+fn read_for<'a>(alloc: Global, tokens: &'a [Symbol<'a>], limits: Limits) -> Read<'a, Stat>
+    ensures { Gives (reads_at limits for_stat tokens.now) result }
+{
+    let (head, rest) = one(tokens, Terminal::For, limits)?;
+    let (start, rest) = read_for_first(alloc, rest, limits)?;
+    let (test, rest) = keeping!(start; read_for_test(alloc, rest, limits));
+    let (step, rest) = keeping!(start, test; read_for_step(alloc, rest, limits));
+    read_for_body(alloc, head.position, (start, test, step), rest, limits)
+}
+
+// A statement.
+#[cycle(statement)]
+#[tactic(auto, using(ooo_grammar::specs::Steps::steps), unfolding(ooo_grammar::specs::Statements::stat))]
+fn read_stat<'a>(alloc: Global, tokens: &'a [Symbol<'a>], limits: Limits) -> Read<'a, Stat>
+    ensures { Gives (reads_at limits stat tokens.now) result }
+{
+    if starts(tokens, Terminal::OpenBrace) {
+        return read_block(alloc, tokens, limits);
+    }
+    if starts(tokens, Terminal::Semicolon) {
+        return read_empty(tokens, limits);
+    }
+    if starts(tokens, Terminal::Break) {
+        return read_break(tokens, limits);
+    }
+    if starts(tokens, Terminal::Continue) {
+        return read_continue(tokens, limits);
+    }
+    if starts(tokens, Terminal::Return) {
+        return read_return(alloc, tokens, limits);
+    }
+    if begins_with_type(tokens) {
+        return read_local_stat(alloc, tokens, limits);
+    }
+    if begins_with_simple(tokens) {
+        return read_simple_stat(alloc, tokens, limits);
+    }
+    if starts(tokens, Terminal::If) {
+        return read_if(alloc, tokens, limits);
+    }
+    if starts(tokens, Terminal::While) {
+        return read_while(alloc, tokens, limits);
+    }
+    if starts(tokens, Terminal::Do) {
+        return read_do(alloc, tokens, limits);
+    }
+    read_for(alloc, tokens, limits)
+}
+
+/// Reads a block: statements in braces.
+#[tactic(auto, using(ooo_grammar::specs::Steps::steps), unfolding(ooo_grammar::specs::Statements::body))]
+pub fn read_body<'a>(
+    alloc: Global,
+    tokens: &'a [Symbol<'a>],
+    limits: Limits,
+) -> Read<'a, Items<Stat>>
+    ensures { Gives (reads_at limits body tokens.now) result }
+{
+    let (_, rest) = one(tokens, Terminal::OpenBrace, limits)?;
+    let (list, rest) = read_stats(alloc, rest, limits)?;
+    let (_, rest) = one(rest, Terminal::CloseBrace, limits)?;
+    Ok((list, rest))
+}
