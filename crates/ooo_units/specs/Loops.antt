@@ -1,0 +1,23 @@
+-- One turn of a reader's loop.
+use Rattle.std.specs.Prelude.{Bool, List, [], ◌∷◌, ◌++◌}
+use Rattle.ooo_syntax.specs.declared.terminal.Terminal.{Terminal}
+use Rattle.ooo_syntax.specs.declared.module.Arg.{Arg}
+use Rattle.ooo_grammar.specs.Forms.{Reader, then_r, mapped_r}
+use Rattle.ooo_grammar.specs.Sets.{Terminals}
+use Rattle.ooo_grammar.specs.Codes.{Code}
+use Rattle.ooo_grammar.specs.Combinators.{quoted}
+use Rattle.ooo_grammar.specs.Members.{ends_in_value, next_arg}
+use Rattle.ooo_grammar.specs.declared.limits.Limits.{Limits}
+use Rattle.ooo_grammar.specs.Gives.{reads_at}
+
+-- one more item
+abbrev pub one_more : {A : Type 0} {f : Terminals} {g : A → Terminals} {e : Bool} → Limits → Code A f g e → List A → Reader (List A)
+one_more l c xs = mapped_r (λ x. xs ++ x ∷ []) (reads_at l c)
+
+-- a sign and one more item
+abbrev pub next_item : {A : Type 0} {f : Terminals} {g : A → Terminals} {e : Bool} → Limits → Terminal → Code A f g e → List A → Reader (List A)
+next_item l K c xs = then_r (reads_at l (quoted K)) (λ _. one_more l c xs)
+
+-- a comma and one more argument
+abbrev pub arg_step : Limits → List Arg → Reader (List Arg)
+arg_step l xs = reads_at l (next_arg (ends_in_value xs) xs)

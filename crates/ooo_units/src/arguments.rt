@@ -1,0 +1,171 @@
+ghost use Rattle.std.specs.Prelude.{◌≡◌, IfOk};
+ghost use Rattle.ooo_grammar.specs.Codes.{deeper};
+ghost use Rattle.ooo_grammar.specs.Gives.{Gives, reads_at};
+ghost use Rattle.ooo_grammar.specs.Members.{arg_part, args, ends_in_value, next_arg, scale_or_arg, some_args, with_unit};
+ghost use Rattle.ooo_units.specs.Loops.{arg_step};
+ghost use Rattle.ooo_units.specs.Parts.{maybe_args};
+
+use crate::signs::begins_with_arg;
+use ooo_exprs::read_value;
+use ooo_grammar::{Limits, Read, one, read_text, starts};
+use ooo_statements::{
+    begins_with_named_time, begins_with_unit_of_time, read_named_time, read_unit_of_time,
+};
+use ooo_syntax::{Arg, Symbol, Terminal, TimeForm};
+use ooo_time::Scale;
+use sqlite_items::Items;
+use std::alloc::{AllocError, Global};
+
+// Whether the last argument is a value.
+#[tactic(auto, using(crate::proofs::Args::ends))]
+fn ends_in_value(list: &Items<Arg>) -> bool
+    ensures { result ≡ ends_in_value list.now }
+{
+    matches!(list.as_slice().last(), Some(Arg::Value(_)))
+}
+
+// The arguments, of which the last value has this unit.
+#[tactic(auto, using(crate::proofs::Args::units))]
+fn with_unit(unit: Scale, mut list: Items<Arg>) -> Result<Items<Arg>, AllocError>
+    ensures { IfOk result (λ xs. xs ≡ with_unit unit list) }
+{
+    match list.pop() {
+        Some(Arg::Value(amount)) => list.push(Arg::Time(TimeForm::Amount(amount, unit)))?,
+        Some(Arg::Text(text)) => list.push(Arg::Text(text))?,
+        Some(Arg::Time(time)) => list.push(Arg::Time(time))?,
+        None => {}
+    }
+    Ok(list)
+}
+
+// An argument, without what makes a value a time.
+#[tactic(auto, using(ooo_grammar::specs::Steps::steps), unfolding(ooo_grammar::specs::Members::arg_part))]
+fn read_arg_part<'a>(alloc: Global, tokens: &'a [Symbol<'a>], limits: Limits) -> Read<'a, Arg>
+    ensures { Gives (reads_at limits arg_part tokens.now) result }
+{
+    if starts(tokens, Terminal::Text) {
+        let (text, rest) = read_text(alloc, tokens, limits)?;
+        return Ok((Arg::Text(text), rest));
+    }
+    if begins_with_named_time(tokens) {
+        let (time, rest) = read_named_time(alloc, tokens, limits)?;
+        return Ok((Arg::Time(time), rest));
+    }
+    let (value, rest) = read_value(alloc, tokens, limits)?;
+    Ok((Arg::Value(value), rest))
+}
+
+// A unit of time or an argument, after a value and a comma.
+#[tactic(auto, using(ooo_grammar::specs::Steps::steps), unfolding(ooo_grammar::specs::Members::scale_or_arg))]
+fn read_scale_or_arg<'a>(
+    alloc: Global,
+    mut list: Items<Arg>,
+    tokens: &'a [Symbol<'a>],
+    limits: Limits,
+) -> Read<'a, Items<Arg>>
+    ensures { Gives (reads_at limits (scale_or_arg list) tokens.now) result }
+{
+    if begins_with_unit_of_time(tokens) {
+        let (unit, rest) = read_unit_of_time(tokens, limits)?;
+        return Ok((with_unit(unit, list)?, rest));
+    }
+    let (more, rest) = read_arg_part(alloc, tokens, limits)?;
+    list.push(more)?;
+    Ok((list, rest))
+}
+
+// A comma and one more argument.
+#[tactic(auto, using(ooo_grammar::specs::Steps::steps), unfolding(ooo_grammar::specs::Members::next_arg))]
+fn read_next_arg<'a>(
+    alloc: Global,
+    ends_in_value: bool,
+    mut list: Items<Arg>,
+    tokens: &'a [Symbol<'a>],
+    limits: Limits,
+) -> Read<'a, Items<Arg>>
+    ensures { Gives (reads_at limits (next_arg ends_in_value list) tokens.now) result }
+{
+    let (_, rest) = one(tokens, Terminal::Comma, limits)?;
+    if ends_in_value {
+        return read_scale_or_arg(alloc, list, rest, limits);
+    }
+    let (more, rest) = read_arg_part(alloc, rest, limits)?;
+    list.push(more)?;
+    Ok((list, rest))
+}
+
+// A comma and one more argument, by the last one.
+#[tactic(auto, using(ooo_grammar::specs::Steps::steps))]
+fn read_further_arg<'a>(
+    alloc: Global,
+    list: Items<Arg>,
+    tokens: &'a [Symbol<'a>],
+    limits: Limits,
+) -> Read<'a, Items<Arg>>
+    ensures { Gives (arg_step limits list tokens.now) result }
+{
+    let is_value = ends_in_value(&list);
+    read_next_arg(alloc, is_value, list, tokens, limits)
+}
+
+// Arguments.
+#[tactic(auto, using(ooo_grammar::specs::Steps::steps), unfolding(ooo_grammar::specs::Members::args))]
+fn read_args<'a>(alloc: Global, tokens: &'a [Symbol<'a>], limits: Limits) -> Read<'a, Items<Arg>>
+    ensures { Gives (reads_at limits args tokens.now) result }
+{
+    let (first, mut rest) = read_arg_part(alloc, tokens, limits)?;
+    let mut list = Items::new(alloc);
+    list.push(first)?;
+    'turns: for _turn in 0..rest.len() {
+        if !starts(rest, Terminal::Comma) {
+            return Ok((list, rest));
+        }
+        let (more, after) = read_further_arg(alloc, list, rest, limits)?;
+        list = more;
+        rest = after;
+    }
+    Ok((list, rest))
+}
+
+// The same, one level deeper.
+#[tactic(auto, using(ooo_grammar::specs::Steps::deeper_gives))]
+pub(crate) fn read_args_inside<'a>(
+    alloc: Global,
+    tokens: &'a [Symbol<'a>],
+    limits: Limits,
+) -> Read<'a, Items<Arg>>
+    ensures { Gives (reads_at limits (deeper args) tokens.now) result }
+{
+    read_args(alloc, tokens, limits.inside())
+}
+
+// Arguments in parentheses.
+#[tactic(auto, using(ooo_grammar::specs::Steps::steps), unfolding(ooo_grammar::specs::Members::some_args))]
+pub(crate) fn read_some_args<'a>(
+    alloc: Global,
+    tokens: &'a [Symbol<'a>],
+    limits: Limits,
+) -> Read<'a, Items<Arg>>
+    ensures { Gives (reads_at limits some_args tokens.now) result }
+{
+    let (_, rest) = one(tokens, Terminal::Open, limits)?;
+    let (list, rest) = read_args_inside(alloc, rest, limits)?;
+    let (_, rest) = one(rest, Terminal::Close, limits)?;
+    Ok((list, rest))
+}
+
+// Arguments in parentheses, or nothing.
+#[tactic(auto, using(ooo_grammar::specs::Steps::steps))]
+pub(crate) fn read_maybe_args<'a>(
+    alloc: Global,
+    tokens: &'a [Symbol<'a>],
+    limits: Limits,
+) -> Read<'a, Option<Items<Arg>>>
+    ensures { Gives (reads_at limits maybe_args tokens.now) result }
+{
+    if !starts(tokens, Terminal::Open) {
+        return Ok((None, tokens));
+    }
+    let (list, rest) = read_some_args(alloc, tokens, limits)?;
+    Ok((Some(list), rest))
+}

@@ -1,0 +1,15 @@
+//! Reads whole texts of the grammar: the members of modules, their constructors, `sc_main` and a file.
+//!
+//! A whole text is `read_unit`. Each reader answers what the code in its contract does: the tree and the tokens
+//! after it, or the first token that the code refuses or that stands too deep. Only running out of memory stands
+//! beside that. The codes are those of the grammar's crate, so nothing is read that the grammar doesn't have, and
+//! nothing that it has is refused.
+#![tactic(auto)]
+
+mod arguments;
+mod constructors;
+mod members;
+mod signs;
+mod units;
+
+pub use units::read_unit;

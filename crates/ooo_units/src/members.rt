@@ -1,0 +1,849 @@
+ghost use Rattle.std.specs.Prelude.{◌≡◌, IfOk};
+ghost use Rattle.ooo_grammar.specs.Codes.{deeper};
+ghost use Rattle.ooo_grammar.specs.Combinators.{table};
+ghost use Rattle.ooo_grammar.specs.Gives.{Gives, reads_at};
+ghost use Rattle.ooo_grammar.specs.Lexis.{word};
+ghost use Rattle.ooo_grammar.specs.Members.{channel_table, channels, const_field, const_fields, const_member, constant, constant_tail, field, field_form, function_tail, member, module_form, more_fields, of_type, param, params, part, parts, port_table, ports, typed_member, typed_tail, worded_tail, words};
+ghost use Rattle.ooo_units.specs.Loops.{next_item, one_more};
+ghost use Rattle.ooo_units.specs.Parts.{braced_members, clocks_member, events_member, further_fields, listed_params, members, other_member, parens_word, placed_member, process_member, public_member, some_params, some_parts, some_words, static_member, void_member};
+
+use crate::arguments::read_args_inside;
+use crate::constructors::{read_named_constructor, read_word_in_parens, read_written_constructor};
+use crate::signs::{
+    begins_with_channel, begins_with_member, begins_with_port, channel_of, none_yet, port_of,
+};
+use ooo_exprs::{read_inner_value, read_value};
+use ooo_grammar::{
+    Limits, Read, ReadError, begins_with_type, next, one, read_type, read_word, starts,
+};
+use ooo_statements::read_body;
+use ooo_syntax::{
+    ChannelWord, Channels, Children, Constant, Field, FieldForm, Fields, Function, Member, Module,
+    Param, Part, PortWord, Ports, ResultForm, Symbol, Terminal, TypeName, Word,
+};
+use sqlite_items::Items;
+use std::alloc::{AllocError, Global};
+
+// A word, one level deeper.
+#[tactic(auto, using(ooo_grammar::specs::Steps::deeper_gives))]
+pub(crate) fn read_word_inside<'a>(
+    alloc: Global,
+    tokens: &'a [Symbol<'a>],
+    limits: Limits,
+) -> Read<'a, Word>
+    ensures { Gives (reads_at limits (deeper word) tokens.now) result }
+{
+    read_word(alloc, tokens, limits.inside())
+}
+
+// A word in parentheses.
+#[tactic(auto, using(ooo_grammar::specs::Steps::steps))]
+pub(crate) fn read_parens_word<'a>(
+    alloc: Global,
+    tokens: &'a [Symbol<'a>],
+    limits: Limits,
+) -> Read<'a, Word>
+    ensures { Gives (reads_at limits parens_word tokens.now) result }
+{
+    let (_, rest) = one(tokens, Terminal::Open, limits)?;
+    let (word, rest) = read_word_inside(alloc, rest, limits)?;
+    let (_, rest) = one(rest, Terminal::Close, limits)?;
+    Ok((word, rest))
+}
+
+// A constant, after `const`.
+#[tactic(auto, using(ooo_grammar::specs::Steps::steps), unfolding(ooo_grammar::specs::Members::constant_tail))]
+fn read_constant_tail<'a>(
+    alloc: Global,
+    is_static: bool,
+    tokens: &'a [Symbol<'a>],
+    limits: Limits,
+) -> Read<'a, Constant>
+    ensures { Gives (reads_at limits (constant_tail is_static) tokens.now) result }
+{
+    let (form, rest) = read_type(tokens, limits)?;
+    let (name, rest) = read_word(alloc, rest, limits)?;
+    let (_, rest) = one(rest, Terminal::Assign, limits)?;
+    let (value, rest) = read_value(alloc, rest, limits)?;
+    let (_, rest) = one(rest, Terminal::Semicolon, limits)?;
+    Ok((
+        Constant {
+            is_static,
+            form,
+            name,
+            value,
+        },
+        rest,
+    ))
+}
+
+// A constant.
+#[tactic(auto, using(ooo_grammar::specs::Steps::steps), unfolding(ooo_grammar::specs::Members::constant))]
+pub(crate) fn read_constant<'a>(
+    alloc: Global,
+    tokens: &'a [Symbol<'a>],
+    limits: Limits,
+) -> Read<'a, Constant>
+    ensures { Gives (reads_at limits constant tokens.now) result }
+{
+    if starts(tokens, Terminal::Static) {
+        let (_, rest) = one(tokens, Terminal::Static, limits)?;
+        let (_, rest) = one(rest, Terminal::Const, limits)?;
+        return read_constant_tail(alloc, true, rest, limits);
+    }
+    let (_, rest) = one(tokens, Terminal::Const, limits)?;
+    read_constant_tail(alloc, false, rest, limits)
+}
+
+// What follows a field's name.
+#[tactic(auto, using(ooo_grammar::specs::Steps::steps), unfolding(ooo_grammar::specs::Members::field_form))]
+fn read_field_form<'a>(
+    alloc: Global,
+    tokens: &'a [Symbol<'a>],
+    limits: Limits,
+) -> Read<'a, FieldForm>
+    ensures { Gives (reads_at limits field_form tokens.now) result }
+{
+    if starts(tokens, Terminal::OpenBracket) {
+        let (_, rest) = one(tokens, Terminal::OpenBracket, limits)?;
+        let (length, rest) = read_inner_value(alloc, rest, limits)?;
+        let (_, rest) = one(rest, Terminal::CloseBracket, limits)?;
+        return Ok((FieldForm::Length(length), rest));
+    }
+    if starts(tokens, Terminal::Assign) {
+        let (_, rest) = one(tokens, Terminal::Assign, limits)?;
+        let (value, rest) = read_value(alloc, rest, limits)?;
+        return Ok((FieldForm::Value(value), rest));
+    }
+    Ok((FieldForm::Plain, tokens))
+}
+
+// A field.
+#[tactic(auto, using(ooo_grammar::specs::Steps::steps), unfolding(ooo_grammar::specs::Members::field))]
+fn read_field<'a>(alloc: Global, tokens: &'a [Symbol<'a>], limits: Limits) -> Read<'a, Field>
+    ensures { Gives (reads_at limits field tokens.now) result }
+{
+    let (name, rest) = read_word(alloc, tokens, limits)?;
+    let (form, rest) = read_field_form(alloc, rest, limits)?;
+    Ok((Field { name, form }, rest))
+}
+
+// A comma and one more field.
+#[tactic(auto, using(ooo_grammar::specs::Steps::steps))]
+fn read_next_field<'a>(
+    alloc: Global,
+    mut list: Items<Field>,
+    tokens: &'a [Symbol<'a>],
+    limits: Limits,
+) -> Read<'a, Items<Field>>
+    ensures { Gives (next_item limits Terminal.Comma field list tokens.now) result }
+{
+    let (_, rest) = one(tokens, Terminal::Comma, limits)?;
+    let (more, rest) = read_field(alloc, rest, limits)?;
+    list.push(more)?;
+    Ok((list, rest))
+}
+
+// More fields, after the first one.
+#[tactic(auto, using(ooo_grammar::specs::Steps::steps))]
+fn read_further_fields<'a>(
+    alloc: Global,
+    first: Field,
+    tokens: &'a [Symbol<'a>],
+    limits: Limits,
+) -> Read<'a, Items<Field>>
+    ensures { Gives (reads_at limits (further_fields first) tokens.now) result }
+{
+    let (mut list, mut rest) = none_yet(alloc, tokens);
+    list.push(first)?;
+    'turns: for _turn in 0..rest.len() {
+        if !starts(rest, Terminal::Comma) {
+            return Ok((list, rest));
+        }
+        let (more, after) = read_next_field(alloc, list, rest, limits)?;
+        list = more;
+        rest = after;
+    }
+    Ok((list, rest))
+}
+
+// More fields, and the `;`.
+#[tactic(auto, using(ooo_grammar::specs::Steps::steps), unfolding(ooo_grammar::specs::Members::more_fields))]
+fn read_more_fields<'a>(
+    alloc: Global,
+    first: Field,
+    tokens: &'a [Symbol<'a>],
+    limits: Limits,
+) -> Read<'a, Items<Field>>
+    ensures { Gives (reads_at limits (more_fields first) tokens.now) result }
+{
+    let (list, rest) = read_further_fields(alloc, first, tokens, limits)?;
+    let (_, rest) = one(rest, Terminal::Semicolon, limits)?;
+    Ok((list, rest))
+}
+
+// A declaration of one field after `const`: with a value it is a constant.
+fn const_field(alloc: Global, form: TypeName, field: Field) -> Result<Member, AllocError>
+    ensures { IfOk result (λ m. m ≡ const_field form field field.form) }
+{
+    let Field { name, form: tail } = field;
+    if let FieldForm::Value(value) = tail {
+        return Ok(Member::Constant(Constant {
+            is_static: false,
+            form,
+            name,
+            value,
+        }));
+    }
+    let mut fields = Items::new(alloc);
+    fields.push(Field { name, form: tail })?;
+    Ok(Member::Fields(Fields {
+        is_const: true,
+        form,
+        fields,
+    }))
+}
+
+// What `const` declares.
+#[tactic(auto, using(crate::proofs::Consts::several))]
+fn const_member(
+    alloc: Global,
+    form: TypeName,
+    mut fields: Items<Field>,
+) -> Result<Member, AllocError>
+    ensures { IfOk result (λ m. m ≡ const_member form fields) }
+{
+    if let Some(last) = fields.pop() {
+        if fields.is_empty() {
+            return const_field(alloc, form, last);
+        }
+        fields.push(last)?;
+    }
+    Ok(Member::Fields(Fields {
+        is_const: true,
+        form,
+        fields,
+    }))
+}
+
+// Fields or a constant, after `const`.
+#[tactic(auto, using(ooo_grammar::specs::Steps::steps), unfolding(ooo_grammar::specs::Members::const_fields))]
+fn read_const_fields<'a>(
+    alloc: Global,
+    tokens: &'a [Symbol<'a>],
+    limits: Limits,
+) -> Read<'a, Member>
+    ensures { Gives (reads_at limits const_fields tokens.now) result }
+{
+    let (form, rest) = read_type(tokens, limits)?;
+    let (first, rest) = read_field(alloc, rest, limits)?;
+    let (fields, rest) = read_more_fields(alloc, first, rest, limits)?;
+    Ok((const_member(alloc, form, fields)?, rest))
+}
+
+// A comma and one more word.
+#[tactic(auto, using(ooo_grammar::specs::Steps::steps))]
+fn read_next_word<'a>(
+    alloc: Global,
+    mut list: Items<Word>,
+    tokens: &'a [Symbol<'a>],
+    limits: Limits,
+) -> Read<'a, Items<Word>>
+    ensures { Gives (next_item limits Terminal.Comma word list tokens.now) result }
+{
+    let (_, rest) = one(tokens, Terminal::Comma, limits)?;
+    let (more, rest) = read_word(alloc, rest, limits)?;
+    list.push(more)?;
+    Ok((list, rest))
+}
+
+// Words.
+#[tactic(auto, using(ooo_grammar::specs::Steps::steps))]
+fn read_some_words<'a>(
+    alloc: Global,
+    tokens: &'a [Symbol<'a>],
+    limits: Limits,
+) -> Read<'a, Items<Word>>
+    ensures { Gives (reads_at limits some_words tokens.now) result }
+{
+    let (first, mut rest) = read_word(alloc, tokens, limits)?;
+    let mut list = Items::new(alloc);
+    list.push(first)?;
+    'turns: for _turn in 0..rest.len() {
+        if !starts(rest, Terminal::Comma) {
+            return Ok((list, rest));
+        }
+        let (more, after) = read_next_word(alloc, list, rest, limits)?;
+        list = more;
+        rest = after;
+    }
+    Ok((list, rest))
+}
+
+// Words and the `;`.
+#[tactic(auto, using(ooo_grammar::specs::Steps::steps), unfolding(ooo_grammar::specs::Members::words))]
+fn read_words<'a>(alloc: Global, tokens: &'a [Symbol<'a>], limits: Limits) -> Read<'a, Items<Word>>
+    ensures { Gives (reads_at limits words tokens.now) result }
+{
+    let (list, rest) = read_some_words(alloc, tokens, limits)?;
+    let (_, rest) = one(rest, Terminal::Semicolon, limits)?;
+    Ok((list, rest))
+}
+
+// A type in angle brackets.
+#[tactic(auto, using(ooo_grammar::specs::Steps::steps), unfolding(ooo_grammar::specs::Members::of_type))]
+pub(crate) fn read_of_type<'a>(tokens: &'a [Symbol<'a>], limits: Limits) -> Read<'a, TypeName>
+    ensures { Gives (reads_at limits of_type tokens.now) result }
+{
+    let (_, rest) = one(tokens, Terminal::Less, limits)?;
+    let (form, rest) = read_type(rest, limits)?;
+    let (_, rest) = one(rest, Terminal::Greater, limits)?;
+    Ok((form, rest))
+}
+
+// A port's word.
+#[tactic(auto, using(ooo_grammar::specs::Steps::steps))]
+fn read_port_word<'a>(tokens: &'a [Symbol<'a>], limits: Limits) -> Read<'a, PortWord>
+    ensures { Gives (reads_at limits (table port_table) tokens.now) result }
+{
+    let Some((token, rest)) = next(tokens) else {
+        return Err(ReadError::Syntax(tokens.len()));
+    };
+    let Some(found) = port_of(token) else {
+        return Err(ReadError::Syntax(tokens.len()));
+    };
+    if !limits.fit(token) {
+        return Err(ReadError::TooDeep(tokens.len()));
+    }
+    Ok((found, rest))
+}
+
+// A channel's word.
+#[tactic(auto, using(ooo_grammar::specs::Steps::steps))]
+pub(crate) fn read_channel_word<'a>(
+    tokens: &'a [Symbol<'a>],
+    limits: Limits,
+) -> Read<'a, ChannelWord>
+    ensures { Gives (reads_at limits (table channel_table) tokens.now) result }
+{
+    let Some((token, rest)) = next(tokens) else {
+        return Err(ReadError::Syntax(tokens.len()));
+    };
+    let Some(found) = channel_of(token) else {
+        return Err(ReadError::Syntax(tokens.len()));
+    };
+    if !limits.fit(token) {
+        return Err(ReadError::TooDeep(tokens.len()));
+    }
+    Ok((found, rest))
+}
+
+// Ports.
+#[tactic(auto, using(ooo_grammar::specs::Steps::steps), unfolding(ooo_grammar::specs::Members::ports))]
+fn read_ports<'a>(alloc: Global, tokens: &'a [Symbol<'a>], limits: Limits) -> Read<'a, Ports>
+    ensures { Gives (reads_at limits ports tokens.now) result }
+{
+    let (port, rest) = read_port_word(tokens, limits)?;
+    let (form, rest) = read_of_type(rest, limits)?;
+    let (names, rest) = read_words(alloc, rest, limits)?;
+    Ok((Ports { port, form, names }, rest))
+}
+
+// A part.
+#[tactic(auto, using(ooo_grammar::specs::Steps::steps), unfolding(ooo_grammar::specs::Members::part))]
+fn read_part<'a>(alloc: Global, tokens: &'a [Symbol<'a>], limits: Limits) -> Read<'a, Part>
+    ensures { Gives (reads_at limits part tokens.now) result }
+{
+    let (name, rest) = read_word(alloc, tokens, limits)?;
+    if !starts(rest, Terminal::OpenBrace) {
+        return Ok((Part { name, args: None }, rest));
+    }
+    let (_, rest) = one(rest, Terminal::OpenBrace, limits)?;
+    let (args, rest) = read_args_inside(alloc, rest, limits)?;
+    let (_, rest) = one(rest, Terminal::CloseBrace, limits)?;
+    Ok((
+        Part {
+            name,
+            args: Some(args),
+        },
+        rest,
+    ))
+}
+
+// A comma and one more part.
+#[tactic(auto, using(ooo_grammar::specs::Steps::steps))]
+fn read_next_part<'a>(
+    alloc: Global,
+    mut list: Items<Part>,
+    tokens: &'a [Symbol<'a>],
+    limits: Limits,
+) -> Read<'a, Items<Part>>
+    ensures { Gives (next_item limits Terminal.Comma part list tokens.now) result }
+{
+    let (_, rest) = one(tokens, Terminal::Comma, limits)?;
+    let (more, rest) = read_part(alloc, rest, limits)?;
+    list.push(more)?;
+    Ok((list, rest))
+}
+
+// Parts.
+#[tactic(auto, using(ooo_grammar::specs::Steps::steps))]
+fn read_some_parts<'a>(
+    alloc: Global,
+    tokens: &'a [Symbol<'a>],
+    limits: Limits,
+) -> Read<'a, Items<Part>>
+    ensures { Gives (reads_at limits some_parts tokens.now) result }
+{
+    let (first, mut rest) = read_part(alloc, tokens, limits)?;
+    let mut list = Items::new(alloc);
+    list.push(first)?;
+    'turns: for _turn in 0..rest.len() {
+        if !starts(rest, Terminal::Comma) {
+            return Ok((list, rest));
+        }
+        let (more, after) = read_next_part(alloc, list, rest, limits)?;
+        list = more;
+        rest = after;
+    }
+    Ok((list, rest))
+}
+
+// Parts and the `;`.
+#[tactic(auto, using(ooo_grammar::specs::Steps::steps), unfolding(ooo_grammar::specs::Members::parts))]
+fn read_parts<'a>(alloc: Global, tokens: &'a [Symbol<'a>], limits: Limits) -> Read<'a, Items<Part>>
+    ensures { Gives (reads_at limits parts tokens.now) result }
+{
+    let (list, rest) = read_some_parts(alloc, tokens, limits)?;
+    let (_, rest) = one(rest, Terminal::Semicolon, limits)?;
+    Ok((list, rest))
+}
+
+// Channels.
+#[tactic(auto, using(ooo_grammar::specs::Steps::steps), unfolding(ooo_grammar::specs::Members::channels))]
+fn read_channels<'a>(alloc: Global, tokens: &'a [Symbol<'a>], limits: Limits) -> Read<'a, Channels>
+    ensures { Gives (reads_at limits channels tokens.now) result }
+{
+    let (channel, rest) = read_channel_word(tokens, limits)?;
+    let (form, rest) = read_of_type(rest, limits)?;
+    let (parts, rest) = read_parts(alloc, rest, limits)?;
+    Ok((
+        Channels {
+            channel,
+            form,
+            parts,
+        },
+        rest,
+    ))
+}
+
+// A parameter.
+#[tactic(auto, using(ooo_grammar::specs::Steps::steps), unfolding(ooo_grammar::specs::Members::param))]
+pub(crate) fn read_param<'a>(
+    alloc: Global,
+    tokens: &'a [Symbol<'a>],
+    limits: Limits,
+) -> Read<'a, Param>
+    ensures { Gives (reads_at limits param tokens.now) result }
+{
+    let (form, rest) = read_type(tokens, limits)?;
+    let (name, rest) = read_word(alloc, rest, limits)?;
+    Ok((Param { form, name }, rest))
+}
+
+// A comma and one more parameter.
+#[tactic(auto, using(ooo_grammar::specs::Steps::steps))]
+pub(crate) fn read_next_param<'a>(
+    alloc: Global,
+    mut list: Items<Param>,
+    tokens: &'a [Symbol<'a>],
+    limits: Limits,
+) -> Read<'a, Items<Param>>
+    ensures { Gives (next_item limits Terminal.Comma param list tokens.now) result }
+{
+    let (_, rest) = one(tokens, Terminal::Comma, limits)?;
+    let (more, rest) = read_param(alloc, rest, limits)?;
+    list.push(more)?;
+    Ok((list, rest))
+}
+
+// Parameters.
+#[tactic(auto, using(ooo_grammar::specs::Steps::steps))]
+fn read_some_params<'a>(
+    alloc: Global,
+    tokens: &'a [Symbol<'a>],
+    limits: Limits,
+) -> Read<'a, Items<Param>>
+    ensures { Gives (reads_at limits some_params tokens.now) result }
+{
+    let (first, mut rest) = read_param(alloc, tokens, limits)?;
+    let mut list = Items::new(alloc);
+    list.push(first)?;
+    'turns: for _turn in 0..rest.len() {
+        if !starts(rest, Terminal::Comma) {
+            return Ok((list, rest));
+        }
+        let (more, after) = read_next_param(alloc, list, rest, limits)?;
+        list = more;
+        rest = after;
+    }
+    Ok((list, rest))
+}
+
+// Parameters or none.
+#[tactic(auto, using(ooo_grammar::specs::Steps::steps))]
+fn read_listed_params<'a>(
+    alloc: Global,
+    tokens: &'a [Symbol<'a>],
+    limits: Limits,
+) -> Read<'a, Items<Param>>
+    ensures { Gives (reads_at limits listed_params tokens.now) result }
+{
+    if begins_with_type(tokens) {
+        return read_some_params(alloc, tokens, limits);
+    }
+    Ok((Items::new(alloc), tokens))
+}
+
+// The same, one level deeper.
+#[tactic(auto, using(ooo_grammar::specs::Steps::deeper_gives))]
+fn read_listed_params_inside<'a>(
+    alloc: Global,
+    tokens: &'a [Symbol<'a>],
+    limits: Limits,
+) -> Read<'a, Items<Param>>
+    ensures { Gives (reads_at limits (deeper listed_params) tokens.now) result }
+{
+    read_listed_params(alloc, tokens, limits.inside())
+}
+
+// Parameters in parentheses.
+#[tactic(auto, using(ooo_grammar::specs::Steps::steps), unfolding(ooo_grammar::specs::Members::params))]
+fn read_params<'a>(
+    alloc: Global,
+    tokens: &'a [Symbol<'a>],
+    limits: Limits,
+) -> Read<'a, Items<Param>>
+    ensures { Gives (reads_at limits params tokens.now) result }
+{
+    let (_, rest) = one(tokens, Terminal::Open, limits)?;
+    let (list, rest) = read_listed_params_inside(alloc, rest, limits)?;
+    let (_, rest) = one(rest, Terminal::Close, limits)?;
+    Ok((list, rest))
+}
+
+// A function, after its name.
+#[tactic(auto, using(ooo_grammar::specs::Steps::steps), unfolding(ooo_grammar::specs::Members::function_tail))]
+fn read_function_tail<'a>(
+    alloc: Global,
+    gives: ResultForm,
+    word: Word,
+    tokens: &'a [Symbol<'a>],
+    limits: Limits,
+) -> Read<'a, Member>
+    ensures { Gives (reads_at limits (function_tail gives word) tokens.now) result }
+{
+    let (params, rest) = read_params(alloc, tokens, limits)?;
+    let (body, rest) = read_body(alloc, rest, limits)?;
+    Ok((
+        Member::Function(Function {
+            result: gives,
+            name: word,
+            params,
+            body,
+        }),
+        rest,
+    ))
+}
+
+// A function or fields, after a type and a word.
+#[tactic(auto, using(ooo_grammar::specs::Steps::steps), unfolding(ooo_grammar::specs::Members::typed_tail))]
+fn read_typed_tail<'a>(
+    alloc: Global,
+    form: TypeName,
+    word: Word,
+    tokens: &'a [Symbol<'a>],
+    limits: Limits,
+) -> Read<'a, Member>
+    ensures { Gives (reads_at limits (typed_tail form word) tokens.now) result }
+{
+    if starts(tokens, Terminal::Open) {
+        return read_function_tail(alloc, ResultForm::Value(form), word, tokens, limits);
+    }
+    let (tail, rest) = read_field_form(alloc, tokens, limits)?;
+    let first = Field {
+        name: word,
+        form: tail,
+    };
+    let (fields, rest) = read_more_fields(alloc, first, rest, limits)?;
+    Ok((
+        Member::Fields(Fields {
+            is_const: false,
+            form,
+            fields,
+        }),
+        rest,
+    ))
+}
+
+// A member that begins with a type.
+#[tactic(auto, using(ooo_grammar::specs::Steps::steps), unfolding(ooo_grammar::specs::Members::typed_member))]
+fn read_typed_member<'a>(
+    alloc: Global,
+    tokens: &'a [Symbol<'a>],
+    limits: Limits,
+) -> Read<'a, Member>
+    ensures { Gives (reads_at limits typed_member tokens.now) result }
+{
+    let (form, rest) = read_type(tokens, limits)?;
+    let (word, rest) = read_word(alloc, rest, limits)?;
+    read_typed_tail(alloc, form, word, rest, limits)
+}
+
+// What follows a first word: a constructor or children.
+#[tactic(auto, using(ooo_grammar::specs::Steps::steps), unfolding(ooo_grammar::specs::Members::worded_tail))]
+fn read_worded_tail<'a>(
+    alloc: Global,
+    word: Word,
+    tokens: &'a [Symbol<'a>],
+    limits: Limits,
+) -> Read<'a, Member>
+    ensures { Gives (reads_at limits (worded_tail word) tokens.now) result }
+{
+    if starts(tokens, Terminal::Open) {
+        return read_written_constructor(alloc, word, tokens, limits);
+    }
+    let (parts, rest) = read_parts(alloc, tokens, limits)?;
+    Ok((
+        Member::Children(Children {
+            module_name: word,
+            parts,
+        }),
+        rest,
+    ))
+}
+
+// `public :`
+#[tactic(auto, using(ooo_grammar::specs::Steps::steps))]
+fn read_public_member<'a>(tokens: &'a [Symbol<'a>], limits: Limits) -> Read<'a, Member>
+    ensures { Gives (reads_at limits public_member tokens.now) result }
+{
+    let (_, rest) = one(tokens, Terminal::Public, limits)?;
+    let (_, rest) = one(rest, Terminal::Colon, limits)?;
+    Ok((Member::Public, rest))
+}
+
+// A constant that begins with `static`.
+#[tactic(auto, using(ooo_grammar::specs::Steps::steps))]
+fn read_static_member<'a>(
+    alloc: Global,
+    tokens: &'a [Symbol<'a>],
+    limits: Limits,
+) -> Read<'a, Member>
+    ensures { Gives (reads_at limits static_member tokens.now) result }
+{
+    let (_, rest) = one(tokens, Terminal::Static, limits)?;
+    let (_, rest) = one(rest, Terminal::Const, limits)?;
+    let (constant, rest) = read_constant_tail(alloc, true, rest, limits)?;
+    Ok((Member::Constant(constant), rest))
+}
+
+// `SC_HAS_PROCESS` and its word.
+#[tactic(auto, using(ooo_grammar::specs::Steps::steps))]
+fn read_process_member<'a>(
+    alloc: Global,
+    tokens: &'a [Symbol<'a>],
+    limits: Limits,
+) -> Read<'a, Member>
+    ensures { Gives (reads_at limits process_member tokens.now) result }
+{
+    let (_, rest) = one(tokens, Terminal::ScHasProcess, limits)?;
+    let (word, rest) = read_word_in_parens(alloc, rest, limits)?;
+    Ok((Member::HasProcess(word), rest))
+}
+
+// Clock ports.
+#[tactic(auto, using(ooo_grammar::specs::Steps::steps))]
+fn read_clocks_member<'a>(
+    alloc: Global,
+    tokens: &'a [Symbol<'a>],
+    limits: Limits,
+) -> Read<'a, Member>
+    ensures { Gives (reads_at limits clocks_member tokens.now) result }
+{
+    let (_, rest) = one(tokens, Terminal::ScInClk, limits)?;
+    let (list, rest) = read_words(alloc, rest, limits)?;
+    Ok((Member::Clocks(list), rest))
+}
+
+// Events.
+#[tactic(auto, using(ooo_grammar::specs::Steps::steps))]
+fn read_events_member<'a>(
+    alloc: Global,
+    tokens: &'a [Symbol<'a>],
+    limits: Limits,
+) -> Read<'a, Member>
+    ensures { Gives (reads_at limits events_member tokens.now) result }
+{
+    let (_, rest) = one(tokens, Terminal::ScEvent, limits)?;
+    let (list, rest) = read_words(alloc, rest, limits)?;
+    Ok((Member::Events(list), rest))
+}
+
+// A function that gives nothing.
+#[tactic(auto, using(ooo_grammar::specs::Steps::steps))]
+fn read_void_member<'a>(alloc: Global, tokens: &'a [Symbol<'a>], limits: Limits) -> Read<'a, Member>
+    ensures { Gives (reads_at limits void_member tokens.now) result }
+{
+    let (_, rest) = one(tokens, Terminal::Void, limits)?;
+    let (word, rest) = read_word(alloc, rest, limits)?;
+    read_function_tail(alloc, ResultForm::Nothing, word, rest, limits)
+}
+
+// Ports, channels, or a member that begins with a word of the model's own.
+#[tactic(auto, using(ooo_grammar::specs::Steps::steps))]
+fn read_placed_member<'a>(
+    alloc: Global,
+    tokens: &'a [Symbol<'a>],
+    limits: Limits,
+) -> Read<'a, Member>
+    ensures { Gives (reads_at limits placed_member tokens.now) result }
+{
+    if begins_with_port(tokens) {
+        let (ports, rest) = read_ports(alloc, tokens, limits)?;
+        return Ok((Member::Ports(ports), rest));
+    }
+    if begins_with_channel(tokens) {
+        let (channels, rest) = read_channels(alloc, tokens, limits)?;
+        return Ok((Member::Channels(channels), rest));
+    }
+    let (word, rest) = read_word(alloc, tokens, limits)?;
+    read_worded_tail(alloc, word, rest, limits)
+}
+
+// A member that is told by no word of its own.
+#[tactic(auto, using(ooo_grammar::specs::Steps::steps))]
+fn read_other_member<'a>(
+    alloc: Global,
+    tokens: &'a [Symbol<'a>],
+    limits: Limits,
+) -> Read<'a, Member>
+    ensures { Gives (reads_at limits other_member tokens.now) result }
+{
+    if starts(tokens, Terminal::ScCtor) {
+        return read_named_constructor(alloc, tokens, limits);
+    }
+    if begins_with_type(tokens) {
+        return read_typed_member(alloc, tokens, limits);
+    }
+    read_placed_member(alloc, tokens, limits)
+}
+
+// A member.
+#[tactic(auto, using(ooo_grammar::specs::Steps::steps), unfolding(ooo_grammar::specs::Members::member))]
+fn read_member<'a>(alloc: Global, tokens: &'a [Symbol<'a>], limits: Limits) -> Read<'a, Member>
+    ensures { Gives (reads_at limits member tokens.now) result }
+{
+    if starts(tokens, Terminal::Public) {
+        return read_public_member(tokens, limits);
+    }
+    if starts(tokens, Terminal::Static) {
+        return read_static_member(alloc, tokens, limits);
+    }
+    if starts(tokens, Terminal::Const) {
+        let (_, rest) = one(tokens, Terminal::Const, limits)?;
+        return read_const_fields(alloc, rest, limits);
+    }
+    if starts(tokens, Terminal::ScHasProcess) {
+        return read_process_member(alloc, tokens, limits);
+    }
+    if starts(tokens, Terminal::ScInClk) {
+        return read_clocks_member(alloc, tokens, limits);
+    }
+    if starts(tokens, Terminal::ScEvent) {
+        return read_events_member(alloc, tokens, limits);
+    }
+    if starts(tokens, Terminal::Void) {
+        return read_void_member(alloc, tokens, limits);
+    }
+    read_other_member(alloc, tokens, limits)
+}
+
+// One more member.
+#[tactic(auto, using(ooo_grammar::specs::Steps::steps))]
+fn read_one_more_member<'a>(
+    alloc: Global,
+    mut list: Items<Member>,
+    tokens: &'a [Symbol<'a>],
+    limits: Limits,
+) -> Read<'a, Items<Member>>
+    ensures { Gives (one_more limits member list tokens.now) result }
+{
+    let (more, rest) = read_member(alloc, tokens, limits)?;
+    list.push(more)?;
+    Ok((list, rest))
+}
+
+// Members.
+#[tactic(auto, using(ooo_grammar::specs::Steps::steps))]
+fn read_members<'a>(
+    alloc: Global,
+    tokens: &'a [Symbol<'a>],
+    limits: Limits,
+) -> Read<'a, Items<Member>>
+    ensures { Gives (reads_at limits members tokens.now) result }
+{
+    let (mut list, mut rest) = none_yet(alloc, tokens);
+    'turns: for _turn in 0..rest.len() {
+        if !begins_with_member(rest) {
+            return Ok((list, rest));
+        }
+        let (more, after) = read_one_more_member(alloc, list, rest, limits)?;
+        list = more;
+        rest = after;
+    }
+    Ok((list, rest))
+}
+
+// The same, one level deeper.
+#[tactic(auto, using(ooo_grammar::specs::Steps::deeper_gives))]
+fn read_members_inside<'a>(
+    alloc: Global,
+    tokens: &'a [Symbol<'a>],
+    limits: Limits,
+) -> Read<'a, Items<Member>>
+    ensures { Gives (reads_at limits (deeper members) tokens.now) result }
+{
+    read_members(alloc, tokens, limits.inside())
+}
+
+// Members in braces.
+#[tactic(auto, using(ooo_grammar::specs::Steps::steps))]
+fn read_braced_members<'a>(
+    alloc: Global,
+    tokens: &'a [Symbol<'a>],
+    limits: Limits,
+) -> Read<'a, Items<Member>>
+    ensures { Gives (reads_at limits braced_members tokens.now) result }
+{
+    let (_, rest) = one(tokens, Terminal::OpenBrace, limits)?;
+    let (list, rest) = read_members_inside(alloc, rest, limits)?;
+    let (_, rest) = one(rest, Terminal::CloseBrace, limits)?;
+    Ok((list, rest))
+}
+
+// A module.
+#[tactic(auto, using(ooo_grammar::specs::Steps::steps), unfolding(ooo_grammar::specs::Members::module_form))]
+pub(crate) fn read_module_form<'a>(
+    alloc: Global,
+    tokens: &'a [Symbol<'a>],
+    limits: Limits,
+) -> Read<'a, Module>
+    ensures { Gives (reads_at limits module_form tokens.now) result }
+{
+    let (_, rest) = one(tokens, Terminal::ScModule, limits)?;
+    let (name, rest) = read_parens_word(alloc, rest, limits)?;
+    let (members, rest) = read_braced_members(alloc, rest, limits)?;
+    let (_, rest) = one(rest, Terminal::Semicolon, limits)?;
+    Ok((Module { name, members }, rest))
+}
