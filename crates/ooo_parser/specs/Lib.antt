@@ -1,0 +1,6 @@
+pub mod Words
+pub mod Refusals
+pub mod Reaches
+pub mod Anywhere
+pub mod Sources
+pub mod Laws
