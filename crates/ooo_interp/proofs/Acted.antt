@@ -2,17 +2,21 @@
 use Rattle.std.proofs.Common.{◌≡◌, ℕ, List, [], ◌∷◌, Result, Ok, Err, Some, IsErrAnd, slice_get, sym, ap, subst, ◌∙◌}
 use Rattle.ooo_value.specs.declared.operators.Fault.{Fault}
 use Rattle.ooo_value.specs.declared.values.Value.{Value}
+use Rattle.ooo_code.specs.declared.activation.Effect.{Effect}
 use Rattle.ooo_code.specs.declared.activation.Effect.TheVariants as effect
 use Rattle.ooo_code.specs.declared.activation.Frame.{Frame}
 use Rattle.ooo_code.specs.declared.activation.JobEnd.TheVariants as job
+use Rattle.ooo_code.specs.declared.expression.NodeExpr.{NodeExpr}
+use Rattle.ooo_code.specs.declared.node.Node.{Node}
+use Rattle.ooo_code.specs.declared.node.NodeKind.{NodeKind}
 use Rattle.ooo_code.specs.declared.node.NodeKind.TheVariants as kind
-use Rattle.ooo_code.specs.Expressions.{Sight, fifo_seen}
+use Rattle.ooo_code.specs.Expressions.{Sight, fifo_seen, reading_of}
 use Rattle.ooo_code.specs.Nodes.{Doing, Next, Running, act, ends, with_effect, with_first, with_put, with_take}
 use Rattle.ooo_code.specs.Outcomes.{Outcome}
 use Rattle.ooo_interp.specs.declared.doing.Halt.{Halt}
 use Rattle.ooo_interp.specs.declared.doing.Halt.TheVariants as halt
 use Rattle.ooo_interp.specs.declared.doing.Made.{Made}
-use Rattle.ooo_interp.specs.Acting.{IsHalt, Steps, doing_of}
+use Rattle.ooo_interp.specs.Acting.{Acts, GoesWith, IsHalt, Steps, doing_of}
 use Rattle.ooo_interp.specs.Lending.{after_put, after_slot, after_take}
 
 -- a fault halts
@@ -24,13 +28,26 @@ first_gives : (vs : List Value) (v : Value) (none : Outcome Frame) (go : Value �
 first_gives [] v none go h = absurd cc
 first_gives (w ∷ ws) v none go h = let e : w ≡ v = cc in ap go e
 
+-- an effect is added, and then it goes on
+pub goes_with : (r : Running) (line to : ℕ) (f : Effect) (result : Result ℕ Halt) (before after : Doing) (from : Next → Outcome Frame) → GoesWith f to result before after → ((next : Next) → from next ≡ next to (with_effect f before)) → Steps r line result after from
+goes_with r line to f (Ok n) before after from h k = λ next. k next ∙ sym (ap (λ x. next x (with_effect f before)) h.0) ∙ sym (ap (next n) h.1)
+goes_with r line to f (Err x) before after from h k = λ next. subst (λ y. IsHalt r line y after (from next)) (sym h) tt
+
 -- a value is taken into a local
-pub took : (r : Running) (number line to c n : ℕ) (v : Value) (s t u : Sight) (m l : Made) (next : Next) → Some v ≡ slice_get (fifo_seen s.seen c).values 0 → t ≡ after_slot s n v → u ≡ after_take t c → ((x : Sight) → doing_of x l ≡ with_effect (effect.Take c) (doing_of x m)) → act r (kind.Take c n) number line to next (doing_of s m) ≡ next to (doing_of u l)
-took r number line to c n v s t u m l next h k j adds =
+pub took : (r : Running) (number line to c n : ℕ) (v : Value) (s t u : Sight) (m l : Made) (result : Result ℕ Halt) → Some v ≡ slice_get (fifo_seen s.seen c).values 0 → t ≡ after_slot s n v → u ≡ after_take t c → ((x : Sight) → GoesWith (effect.Take c) to result (doing_of x m) (doing_of x l)) → Steps r line result (doing_of u l) (λ next. act r (kind.Take c n) number line to next (doing_of s m))
+took r number line to c n v s t u m l result h k j adds =
     let e : u ≡ after_take (after_slot s n v) c = j ∙ ap (λ x. after_take x c) k in
-    let f : doing_of u l ≡ with_take c n v (doing_of s m) = ap (λ x. doing_of x l) e ∙ adds (after_take (after_slot s n v) c) in
-    first_gives (fifo_seen s.seen c).values v (next to (doing_of s m)) (λ w. next to (with_take c n w (doing_of s m))) h ∙ ap (next to) (sym f)
+    let f : with_effect (effect.Take c) (doing_of u m) ≡ with_take c n v (doing_of s m) = ap (λ x. with_effect (effect.Take c) (doing_of x m)) e in
+    goes_with r line to (effect.Take c) result (doing_of u m) (doing_of u l) (λ next. act r (kind.Take c n) number line to next (doing_of s m)) (adds u)
+    (λ next. first_gives (fifo_seen s.seen c).values v (next to (doing_of s m)) (λ w. next to (with_take c n w (doing_of s m))) h ∙ ap (next to) (sym f))
 
 -- a value is put
-pub filled : (c : ℕ) (v : Value) (s t : Sight) (m l : Made) → t ≡ after_put s c → ((x : Sight) → doing_of x l ≡ with_effect (effect.Put c v) (doing_of x m)) → doing_of t l ≡ with_put c v (doing_of s m)
-filled c v s t m l k adds = ap (λ x. doing_of x l) k ∙ adds (after_put s c)
+pub filled : (r : Running) (number line to c : ℕ) (e : NodeExpr) (v : Value) (s t : Sight) (m l : Made) (result : Result ℕ Halt) → Ok v ≡ reading_of e s → t ≡ after_put s c → ((x : Sight) → GoesWith (effect.Put c v) to result (doing_of x m) (doing_of x l)) → Steps r line result (doing_of t l) (λ next. act r (kind.Put c e) number line to next (doing_of s m))
+filled r number line to c e v s t m l result h k adds =
+    let f : with_effect (effect.Put c v) (doing_of t m) ≡ with_put c v (doing_of s m) = ap (λ x. with_effect (effect.Put c v) (doing_of x m)) k in
+    goes_with r line to (effect.Put c v) result (doing_of t m) (doing_of t l) (λ next. act r (kind.Put c e) number line to next (doing_of s m)) (adds t)
+    (λ next. rw (sym h) (ap (next to) (sym f)))
+
+-- a node does what its kind does
+pub acts_by : (r : Running) (node : Node) (k : NodeKind) (number : ℕ) (result : Result ℕ Halt) (before after : Doing) → node.kind ≡ k → Steps r node.line result after (λ next. act r k number node.line node.next next before) → Acts r node number result before after
+acts_by r node k number result before after is does = subst (λ x. Steps r node.line result after (λ next. act r x number node.line node.next next before)) (sym is) does

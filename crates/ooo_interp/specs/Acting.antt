@@ -1,11 +1,13 @@
 -- What one node's step says: where the activation goes on, or how it ends.
 use Rattle.std.specs.Prelude.{◌≡◌, ℕ, Result, Ok, Err, option_map}
+use Rattle.ooo_code.specs.declared.activation.Effect.{Effect}
 use Rattle.ooo_code.specs.declared.activation.Frame.{Frame}
 use Rattle.ooo_code.specs.declared.activation.JobEnd.TheVariants as job
 use Rattle.ooo_code.specs.declared.activation.WaitOn.{WaitOn}
 use Rattle.ooo_code.specs.declared.node.Node.{Node}
+use Rattle.ooo_code.specs.declared.node.NodeKind.{NodeKind}
 use Rattle.ooo_code.specs.Expressions.{Sight}
-use Rattle.ooo_code.specs.Nodes.{Doing, Next, Running, act, ends}
+use Rattle.ooo_code.specs.Nodes.{Doing, Next, Running, act, ends, with_effect}
 use Rattle.ooo_code.specs.Outcomes.{Outcome}
 use Rattle.ooo_interp.specs.declared.doing.Activation.{Activation}
 use Rattle.ooo_interp.specs.declared.doing.Halt.{Halt}
@@ -48,3 +50,13 @@ Steps r line (Err h) d from = (next : Next) → IsHalt r line h d (from next)
 abbrev pub Acts : Running → Node → (number : ℕ) → Result ℕ Halt → (before after : Doing) → Type 0
 Acts r node number result before after =
     Steps r node.line result after (λ next. act r node.kind number node.line node.next next before)
+
+-- what a node of a kind does, whatever process, number and line it has
+abbrev pub ActsAs : NodeKind → (to : ℕ) → Result ℕ Halt → (before after : Doing) → Type 0
+ActsAs k to result before after =
+    (r : Running) (number line : ℕ) → Steps r line result after (λ next. act r k number line to next before)
+
+-- an effect is added and it goes on there, or memory runs out
+abbrev pub GoesWith : Effect → (to : ℕ) → Result ℕ Halt → (before after : Doing) → Type 0
+GoesWith f to (Ok n) before after = (n ≡ to) × (after ≡ with_effect f before)
+GoesWith f to (Err h) before after = h ≡ halt.OutOfMemory

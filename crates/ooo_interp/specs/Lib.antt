@@ -2,3 +2,5 @@ pub mod Acting
 pub mod Lending
 pub mod Running
 pub mod Ports
+pub mod Carrying
+pub mod Jobs

@@ -1,9 +1,8 @@
 -- What a process sees of channels by its ports.
-use Rattle.std.specs.Prelude.{◌≡◌, ℕ, List, drop, map, Option, Some, None, MatchOption}
-use Rattle.std.specs.Borrow.{Bor}
+use Rattle.std.specs.Prelude.{List, drop, map}
 use Rattle.ooo_code.specs.declared.activation.Seen.{Seen}
 use Rattle.ooo_code.specs.declared.activation.Seen.TheVariants as seen
-use Rattle.ooo_code.specs.Expressions.{FifoSeen, fifo_seen}
+use Rattle.ooo_code.specs.Expressions.{FifoSeen}
 use Rattle.ooo_interp.specs.declared.fifo_port.FifoPort.{FifoPort}
 use Rattle.ooo_interp.specs.declared.ports.Port.{Port}
 use Rattle.ooo_interp.specs.declared.ports.Port.TheVariants as port

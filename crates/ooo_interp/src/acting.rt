@@ -1,14 +1,16 @@
-ghost use Rattle.std.specs.Prelude.{ℕ};
+ghost use Rattle.std.specs.Prelude.{◌≡◌, ℕ};
 ghost use Rattle.ooo_code.specs.Expressions.{Sight};
 ghost use Rattle.ooo_code.specs.Nodes.{at_end};
 ghost use Rattle.ooo_interp.specs.Acting.{Acts, IsHalt, doing_of, running_of};
 
-use crate::delays::{delay, delay_of_wait};
+use crate::changes::{put, set, store, take, write};
+use crate::choices::{test, test_available, test_free};
 use crate::doing::{Activation, Halt, Made, Pause};
-use crate::expressions::{evaluate, index_below};
+use crate::notices::{notify, trigger, wait};
 use crate::parts::Lent;
+use crate::printing::{print_text, print_time, print_value};
 use ooo_code::{Effect, Node, NodeKind, SegmentEntry};
-use ooo_value::{Fault, ProcessKind, truth};
+use ooo_value::ProcessKind;
 
 // What a node does: the next node, or why there is none.
 pub(crate) fn act<'a, L: Lent>(
@@ -18,109 +20,29 @@ pub(crate) fn act<'a, L: Lent>(
     node: &'a Node,
     number: u32,
 ) -> Result<u32, Halt<'a>>
-    ensures { Acts (running_of activation.now) node.now number result
+    ensures acts { Acts (running_of activation.now) node.now number result
         (doing_of (L.sight lent.old) made.old) (doing_of (L.sight lent.new) made.new) }
+    ensures kept { L.kept lent.new ≡ L.kept lent.old }
 {
+    let to = node.next;
     match &node.kind {
-        NodeKind::Set(n, e) => {
-            let v = evaluate(lent, e)?;
-            lent.set_slot(*n, v);
-            Ok(node.next)
-        }
-        NodeKind::Store(x, None, e) => {
-            let v = evaluate(lent, e)?;
-            lent.set_cell(*x, 0, v);
-            Ok(node.next)
-        }
-        NodeKind::Store(x, Some(i), e) => {
-            let v = evaluate(lent, e)?;
-            let index = evaluate(lent, i)?;
-            let Some(at) = index_below(lent.cells(*x).len(), index) else {
-                return Err(Halt::Faulted(Fault::IndexRange));
-            };
-            lent.set_cell(*x, at, v);
-            Ok(node.next)
-        }
-        NodeKind::Test(e, no) => {
-            let v = evaluate(lent, e)?;
-            if truth(v) { Ok(node.next) } else { Ok(*no) }
-        }
-        NodeKind::Goto => Ok(node.next),
-        NodeKind::PrintText(text) => {
-            made.output.extend_from_slice(text.as_slice())?;
-            Ok(node.next)
-        }
-        NodeKind::PrintValue(e) => {
-            let v = evaluate(lent, e)?;
-            ooo_value::append(&mut made.output, v)?;
-            Ok(node.next)
-        }
-        NodeKind::PrintTime => {
-            ooo_time::append(&mut made.output, activation.stamp.time)?;
-            Ok(node.next)
-        }
-        NodeKind::Write(c, e) => {
-            let v = evaluate(lent, e)?;
-            made.add(Effect::Request(*c, v))?;
-            Ok(node.next)
-        }
-        NodeKind::TestAvailable(c, no) => match lent.first(*c) {
-            Some(_) => Ok(node.next),
-            None => Ok(*no),
-        },
-        NodeKind::TestFree(c, no) => {
-            if lent.free(*c) == 0 {
-                Ok(*no)
-            } else {
-                Ok(node.next)
-            }
-        }
-        NodeKind::Take(c, n) => {
-            let Some(v) = lent.first(*c) else {
-                return Ok(node.next);
-            };
-            lent.set_slot(*n, v);
-            lent.take(*c);
-            made.add(Effect::Take(*c))?;
-            Ok(node.next)
-        }
-        NodeKind::Put(c, e) => {
-            let v = evaluate(lent, e)?;
-            lent.put(*c);
-            made.add(Effect::Put(*c, v))?;
-            Ok(node.next)
-        }
-        NodeKind::Notify(e, t) => {
-            let time = delay(lent, t)?;
-            made.add(Effect::Notify(*e, time))?;
-            Ok(node.next)
-        }
-        NodeKind::Cancel(e) => {
-            made.add(Effect::Cancel(*e))?;
-            Ok(node.next)
-        }
-        NodeKind::Stop => {
-            made.add(Effect::Stop)?;
-            Ok(node.next)
-        }
-        NodeKind::Trigger(w) => {
-            let time = delay_of_wait(lent, &w.time)?;
-            made.trigger = Some(Pause {
-                time,
-                events: &w.events,
-            });
-            Ok(node.next)
-        }
-        NodeKind::Wait(w) => {
-            let time = delay_of_wait(lent, &w.time)?;
-            Err(Halt::Waits(
-                SegmentEntry::After(number),
-                Pause {
-                    time,
-                    events: &w.events,
-                },
-            ))
-        }
+        NodeKind::Set(n, e) => set(lent, *n, e, to),
+        NodeKind::Store(x, i, e) => store(lent, *x, i, e, to),
+        NodeKind::Test(e, no) => test(lent, e, to, *no),
+        NodeKind::Goto => Ok(to),
+        NodeKind::PrintText(text) => print_text(made, text, to),
+        NodeKind::PrintValue(e) => print_value(lent, made, e, to),
+        NodeKind::PrintTime => print_time(made, activation.stamp.time, to),
+        NodeKind::Write(c, e) => write(lent, made, *c, e, to),
+        NodeKind::TestAvailable(c, no) => Ok(test_available(lent, *c, to, *no)),
+        NodeKind::TestFree(c, no) => Ok(test_free(lent, *c, to, *no)),
+        NodeKind::Take(c, n) => take(lent, made, *c, *n, to),
+        NodeKind::Put(c, e) => put(lent, made, *c, e, to),
+        NodeKind::Notify(e, t) => notify(lent, made, *e, t, to),
+        NodeKind::Cancel(e) => made.go_with(Effect::Cancel(*e), to),
+        NodeKind::Stop => made.go_with(Effect::Stop, to),
+        NodeKind::Trigger(w) => trigger(lent, made, w, to),
+        NodeKind::Wait(w) => wait(lent, w, number),
         NodeKind::End => Err(at_end(made, activation)),
     }
 }

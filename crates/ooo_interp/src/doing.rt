@@ -1,7 +1,7 @@
 ghost use Rattle.std.specs.Prelude.{◌≡◌, OnOk};
 ghost use Rattle.ooo_code.specs.Expressions.{Sight};
 ghost use Rattle.ooo_code.specs.Nodes.{with_effect};
-ghost use Rattle.ooo_interp.specs.Acting.{doing_of};
+ghost use Rattle.ooo_interp.specs.Acting.{GoesWith, doing_of};
 
 use ooo_code::{Effect, Proc, SegmentEntry};
 use ooo_time::{Stamp, Time};
@@ -27,8 +27,16 @@ pub struct Made<'a> {
 }
 
 impl<'a> Made<'a> {
+    // Adds an effect, and goes on to a node.
+    pub(crate) fn go_with(&mut self, effect: Effect, to: u32) -> Result<u32, Halt<'a>>
+        ensures { (s : Sight) → GoesWith effect to result (doing_of s self.old) (doing_of s self.new) }
+    {
+        self.add(effect)?;
+        Ok(to)
+    }
+
     // Adds an effect.
-    pub(crate) fn add(&mut self, effect: Effect) -> Result<(), AllocError>
+    fn add(&mut self, effect: Effect) -> Result<(), AllocError>
         ensures { OnOk result ((s : Sight) →
             doing_of s self.new ≡ with_effect effect (doing_of s self.old)) }
     {

@@ -22,57 +22,30 @@ pub fn evaluate<L: Lent>(lent: &L, e: &NodeExpr) -> Result<Value, Fault>
         }
         NodeExpr::Signal(c) => Ok(lent.signal(*c).0),
         NodeExpr::Event(c) => Ok(Value::Bool(lent.signal(*c).1)),
-        NodeExpr::Edge(c, up) => {
-            let (value, changed) = lent.signal(*c);
-            Ok(Value::Bool(has_edge(value, changed, *up)))
-        }
+        NodeExpr::Edge(c, up) => Ok(Value::Bool(has_edge(lent.signal(*c), *up))),
         NodeExpr::Available(c) => Ok(Value::Int(lent.available(*c))),
         NodeExpr::Free(c) => Ok(Value::Int(lent.free(*c))),
-        NodeExpr::Convert(kind, a) => {
-            let v = evaluate(lent, a.get())?;
-            Ok(convert(v, *kind))
-        }
-        NodeExpr::Negate(a) => {
-            let v = evaluate(lent, a.get())?;
-            negate(v)
-        }
-        NodeExpr::Invert(a) => {
-            let v = evaluate(lent, a.get())?;
-            Ok(invert(v))
-        }
-        NodeExpr::Not(a) => {
-            let v = evaluate(lent, a.get())?;
-            Ok(Value::Bool(!truth(v)))
-        }
+        NodeExpr::Convert(kind, a) => Ok(convert(evaluate(lent, a.get())?, *kind)),
+        NodeExpr::Negate(a) => negate(evaluate(lent, a.get())?),
+        NodeExpr::Invert(a) => Ok(invert(evaluate(lent, a.get())?)),
+        NodeExpr::Not(a) => Ok(Value::Bool(!truth(evaluate(lent, a.get())?))),
         NodeExpr::Binary(op, a, b) => {
             let v = evaluate(lent, a.get())?;
             let w = evaluate(lent, b.get())?;
             binary(*op, v, w)
         }
-        NodeExpr::And(a, b) => {
-            let v = evaluate(lent, a.get())?;
-            if !truth(v) {
-                return Ok(Value::Bool(false));
-            }
-            let w = evaluate(lent, b.get())?;
-            Ok(Value::Bool(truth(w)))
-        }
-        NodeExpr::Or(a, b) => {
-            let v = evaluate(lent, a.get())?;
-            if truth(v) {
-                return Ok(Value::Bool(true));
-            }
-            let w = evaluate(lent, b.get())?;
-            Ok(Value::Bool(truth(w)))
-        }
-        NodeExpr::Choose(c, a, b) => {
-            let v = evaluate(lent, c.get())?;
-            if truth(v) {
-                evaluate(lent, a.get())
-            } else {
-                evaluate(lent, b.get())
-            }
-        }
+        NodeExpr::And(a, b) => match truth(evaluate(lent, a.get())?) {
+            true => Ok(Value::Bool(truth(evaluate(lent, b.get())?))),
+            false => Ok(Value::Bool(false)),
+        },
+        NodeExpr::Or(a, b) => match truth(evaluate(lent, a.get())?) {
+            true => Ok(Value::Bool(true)),
+            false => Ok(Value::Bool(truth(evaluate(lent, b.get())?))),
+        },
+        NodeExpr::Choose(c, a, b) => match truth(evaluate(lent, c.get())?) {
+            true => evaluate(lent, a.get()),
+            false => evaluate(lent, b.get()),
+        },
     }
 }
 
@@ -119,10 +92,11 @@ fn below(length: usize, n: u64) -> Option<usize>
     if at < length { Some(at) } else { None }
 }
 
-// Whether a signal of this value has an edge.
-fn has_edge(value: Value, changed: bool, up: bool) -> bool
-    ensures { (s : SignalSeen) → s.value ≡ value → s.changed ≡ changed → result ≡ is_edge s up }
+// Whether a signal of this value, which changed or not, has an edge.
+fn has_edge(signal: (Value, bool), up: bool) -> bool
+    ensures { (s : SignalSeen) → s.value ≡ signal.0 → s.changed ≡ signal.1 → result ≡ is_edge s up }
 {
+    let (value, changed) = signal;
     if up {
         changed && truth(value)
     } else {

@@ -1,25 +1,45 @@
 //! The interpreter of lowered code: what a process does by its nodes, on parts that are lent to it.
 //!
-//! Proved: [`evaluate`] gives what the definition of an expression gives on what the parts show, and [`run_nodes`] does
-//! what the definition of an activation does: the same changes, effects, output and end, with its line. It takes any
-//! nodes and any parts; only memory can run out.
+//! Proved: [`evaluate`] gives what the definition of an expression gives on what the parts show, and [`run_nodes`] and
+//! [`run_process`] do what the definition of an activation does: the same changes, effects, output and end, with its
+//! line. They take any nodes and any parts; only memory can run out.
+//!
+//! [`run_segment`] runs a job, on the variables and channels that it carries. On every view of all variables that the job
+//! is part of, the definition's activation gives what was done: its output, effects, end and frame, the variables that
+//! the job was given to change as it left them, and all others as they were. The job has to fit (`specs/Jobs`): above
+//! all, it carries what its segment touches.
 #![tactic(auto)]
 
 mod acting;
+mod changes;
+mod choices;
 mod counting;
 mod delays;
 mod doing;
 mod expressions;
 mod fifo_port;
+mod job;
+mod job_parts;
+mod notices;
 mod parts;
 mod ports;
+mod printing;
+mod processes;
 mod running;
+mod segments;
 mod whole;
 
 pub use doing::{Activation, Halt, Made, Pause};
 pub use expressions::evaluate;
 pub use fifo_port::FifoPort;
+pub use job::{Done, Job};
+pub use job_parts::JobParts;
 pub use parts::Lent;
 pub use ports::Port;
+pub use processes::{Ran, Start, run_process};
 pub use running::{End, run_nodes};
+pub use segments::run_segment;
 pub use whole::Whole;
+
+#[cfg(test)]
+mod tests;

@@ -45,9 +45,10 @@ pub fn run_nodes<'a, L: Lent>(
     first: u32,
     statements: u32,
 ) -> Result<End<'a>, AllocError>
-    ensures { let r = running_of activation.now in
+    ensures does { let r = running_of activation.now in
         IfOk result (λ end. steps nodes.now r statements first (doing_of (L.sight lent.old) made.old)
         ≡ ended_by r end (doing_of (L.sight lent.new) made.new)) }
+    ensures kept { L.kept lent.new ≡ L.kept lent.old }
 {
     let mut left = Left::new(statements, nodes.len());
     let mut number = first;
@@ -73,6 +74,7 @@ fn go_on<'a, L: Lent>(
         let after = doing_of (L.sight lent.new) made.new in
         IfOk result (λ t. Comes nodes.now r left.new t after (from_node nodes.now r left.old number before)) }
     ensures shortens { IfOk result (λ t. Shortens nodes.now left.old left.new t) }
+    ensures kept { L.kept lent.new ≡ L.kept lent.old }
 {
     if !left.pass() {
         return Ok(Turn::Over(End::Ended));
@@ -100,11 +102,12 @@ fn do_node<'a, L: Lent>(
     node: &'a Node,
     number: u32,
 ) -> Result<Turn<'a>, AllocError>
-    ensures { let r = running_of activation.now in
+    ensures does { let r = running_of activation.now in
         let before = doing_of (L.sight lent.old) made.old in
         let after = doing_of (L.sight lent.new) made.new in
         IfOk result (λ t. (next : Next) → Turns r t next after
         (act r node.now.kind number node.now.line node.now.next next before)) }
+    ensures kept { L.kept lent.new ≡ L.kept lent.old }
 {
     match act(lent, made, activation, node, number) {
         Ok(to) => Ok(Turn::Goes(to)),

@@ -1,5 +1,6 @@
 ghost use Rattle.std.specs.Prelude.{◌≡◌, slice_set};
 
+use crate::job_parts::set_item;
 use crate::parts::Lent;
 use crate::ports::{Port, fifo_at, put_at, signal_at, take_at};
 use ooo_code::Cells;
@@ -21,6 +22,8 @@ impl Lent for Whole {
       variables = w.variables.items;
       seen = all_shown w.ports.items;
     } };
+
+    ghost kept = { λ w. tt };
 
     fn slots(&self) -> &[Value] {
         self.slots.as_slice()
@@ -86,14 +89,5 @@ fn set_value(values: &mut Vec<Value>, at: usize, v: Value)
 {
     if at < values.len() {
         values[at] = v;
-    }
-}
-
-// Gives an element a value, where there is that element.
-fn set_item(cells: &mut Cells, at: usize, v: Value)
-    ensures { cells.new ≡ slice_set cells.old at v }
-{
-    if at < cells.len() {
-        cells.set(at, v);
     }
 }

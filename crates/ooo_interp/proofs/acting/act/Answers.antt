@@ -1,32 +1,53 @@
--- What a node adds is what its definition adds, and a time that isn't one is the definition's fault.
-use Rattle.std.proofs.Common.{refl, ap, sym}
+-- A node does what its kind does.
+use Rattle.std.proofs.Common.{Ok, refl}
 use Rattle.ooo_interp.specs.Acting.{running_of}
-use Rattle.ooo_interp.proofs.Acted.{fault_halts, filled, took}
+use Rattle.ooo_interp.proofs.Acted.{acts_by, goes_with}
 use Rattle.ooo_interp.proofs.acting.act.Goals as goal
 
-pub returns-in_err-time-in-Notify : goal.returns-in_err-time-in-Notify
-returns-in_err-time-in-Notify g c = fault_halts (running_of c.args.activation.now) _ _ _ _ _ c.from_residual-in_err-time-in-Notify.ensures.1 (λ next. rw (c.in-Notify.is, sym c.in_err-time-in-Notify.ensures) refl)
+pub returns-in-Set-clause-acts : goal.returns-in-Set-clause-acts
+returns-in-Set-clause-acts g c = acts_by (running_of c.args.activation.now) c.args.node.now _ c.args.number _ _ _ c.in-Set.is (c.set.ensures.acts c.args.made.now (running_of c.args.activation.now) c.args.number c.args.node.now.line)
 
-pub returns-in_err-time-in-Trigger : goal.returns-in_err-time-in-Trigger
-returns-in_err-time-in-Trigger g c = fault_halts (running_of c.args.activation.now) _ _ _ _ _ c.from_residual-in_err-time-in-Trigger.ensures.1 (λ next. rw (c.in-Trigger.is, sym c.in_err-time-in-Trigger.ensures) refl)
+pub returns-in-Store-clause-acts : goal.returns-in-Store-clause-acts
+returns-in-Store-clause-acts g c = acts_by (running_of c.args.activation.now) c.args.node.now _ c.args.number _ _ _ c.in-Store.is (c.store.ensures.acts c.args.made.now (running_of c.args.activation.now) c.args.number c.args.node.now.line)
 
-pub returns-in_err-time-in-Wait : goal.returns-in_err-time-in-Wait
-returns-in_err-time-in-Wait g c = fault_halts (running_of c.args.activation.now) _ _ _ _ _ c.from_residual-in_err-time-in-Wait.ensures.1 (λ next. rw (c.in-Wait.is, sym c.in_err-time-in-Wait.ensures) refl)
+pub returns-in-Test-clause-acts : goal.returns-in-Test-clause-acts
+returns-in-Test-clause-acts g c = acts_by (running_of c.args.activation.now) c.args.node.now _ c.args.number _ _ _ c.in-Test.is (c.test.ensures c.args.made.now (running_of c.args.activation.now) c.args.number c.args.node.now.line)
 
-pub returns-in_ok-add-in-Write : goal.returns-in_ok-add-in-Write
-returns-in_ok-add-in-Write g c = λ next. rw (c.in-Write.is, sym c.in_ok-v-in-Write.ensures) (ap (next _) (sym (c.in_ok-add-in-Write.ensures _)))
+pub returns-in-PrintText-clause-acts : goal.returns-in-PrintText-clause-acts
+returns-in-PrintText-clause-acts g c = acts_by (running_of c.args.activation.now) c.args.node.now _ c.args.number _ _ _ c.in-PrintText.is (c.print_text.ensures _ (running_of c.args.activation.now) c.args.number c.args.node.now.line)
 
-pub returns-in_ok-add-in-Take : goal.returns-in_ok-add-in-Take
-returns-in_ok-add-in-Take g c = λ next. rw (c.in-Take.is) (took (running_of c.args.activation.now) c.args.number c.args.node.now.line _ _ _ _ _ _ _ c.args.made.now c.add-in-Take.new.self next c.in-Some-first-2.ensures c.set_slot-in-Take.ensures c.take.ensures c.in_ok-add-in-Take.ensures)
+pub returns-in-PrintValue-clause-acts : goal.returns-in-PrintValue-clause-acts
+returns-in-PrintValue-clause-acts g c = acts_by (running_of c.args.activation.now) c.args.node.now _ c.args.number _ _ _ c.in-PrintValue.is (c.print_value.ensures (running_of c.args.activation.now) c.args.number c.args.node.now.line)
 
-pub returns-in_ok-add-in-Put : goal.returns-in_ok-add-in-Put
-returns-in_ok-add-in-Put g c = λ next. rw (c.in-Put.is, sym c.in_ok-v-in-Put.ensures) (ap (next _) (sym (filled _ _ _ _ c.args.made.now c.add-in-Put.new.self c.put.ensures c.in_ok-add-in-Put.ensures)))
+pub returns-in-PrintTime-clause-acts : goal.returns-in-PrintTime-clause-acts
+returns-in-PrintTime-clause-acts g c = acts_by (running_of c.args.activation.now) c.args.node.now _ c.args.number _ _ _ c.in-PrintTime.is (c.print_time.ensures _ (running_of c.args.activation.now) c.args.number c.args.node.now.line refl)
 
-pub returns-in_ok-add-in-Notify : goal.returns-in_ok-add-in-Notify
-returns-in_ok-add-in-Notify g c = λ next. rw (c.in-Notify.is, sym c.in_ok-time-in-Notify.ensures) (ap (next _) (sym (c.in_ok-add-in-Notify.ensures _)))
+pub returns-in-Write-clause-acts : goal.returns-in-Write-clause-acts
+returns-in-Write-clause-acts g c = acts_by (running_of c.args.activation.now) c.args.node.now _ c.args.number _ _ _ c.in-Write.is (c.write.ensures (running_of c.args.activation.now) c.args.number c.args.node.now.line)
 
-pub returns-in_ok-add-in-Cancel : goal.returns-in_ok-add-in-Cancel
-returns-in_ok-add-in-Cancel g c = λ next. rw (c.in-Cancel.is) (ap (next _) (sym (c.in_ok-add-in-Cancel.ensures _)))
+pub returns-in-TestAvailable-clause-acts : goal.returns-in-TestAvailable-clause-acts
+returns-in-TestAvailable-clause-acts g c = acts_by (running_of c.args.activation.now) c.args.node.now _ c.args.number (Ok c.test_available.result) _ _ c.in-TestAvailable.is (c.test_available.ensures c.args.made.now (running_of c.args.activation.now) c.args.number c.args.node.now.line)
 
-pub returns-in_ok-add-in-Stop : goal.returns-in_ok-add-in-Stop
-returns-in_ok-add-in-Stop g c = λ next. rw (c.in-Stop.is) (ap (next _) (sym (c.in_ok-add-in-Stop.ensures _)))
+pub returns-in-TestFree-clause-acts : goal.returns-in-TestFree-clause-acts
+returns-in-TestFree-clause-acts g c = acts_by (running_of c.args.activation.now) c.args.node.now _ c.args.number (Ok c.test_free.result) _ _ c.in-TestFree.is (c.test_free.ensures c.args.made.now (running_of c.args.activation.now) c.args.number c.args.node.now.line)
+
+pub returns-in-Take-clause-acts : goal.returns-in-Take-clause-acts
+returns-in-Take-clause-acts g c = acts_by (running_of c.args.activation.now) c.args.node.now _ c.args.number _ _ _ c.in-Take.is (c.take.ensures.acts (running_of c.args.activation.now) c.args.number c.args.node.now.line)
+
+pub returns-in-Put-clause-acts : goal.returns-in-Put-clause-acts
+returns-in-Put-clause-acts g c = acts_by (running_of c.args.activation.now) c.args.node.now _ c.args.number _ _ _ c.in-Put.is (c.put.ensures.acts (running_of c.args.activation.now) c.args.number c.args.node.now.line)
+
+pub returns-in-Notify-clause-acts : goal.returns-in-Notify-clause-acts
+returns-in-Notify-clause-acts g c = acts_by (running_of c.args.activation.now) c.args.node.now _ c.args.number _ _ _ c.in-Notify.is (c.notify.ensures (running_of c.args.activation.now) c.args.number c.args.node.now.line)
+
+pub returns-in-Cancel-clause-acts : goal.returns-in-Cancel-clause-acts
+returns-in-Cancel-clause-acts g c = acts_by (running_of c.args.activation.now) c.args.node.now _ c.args.number _ _ _ c.in-Cancel.is (goes_with (running_of c.args.activation.now) c.args.node.now.line _ _ _ _ _ _ (c.go_with.ensures _) (λ next. refl))
+
+pub returns-in-Stop-clause-acts : goal.returns-in-Stop-clause-acts
+returns-in-Stop-clause-acts g c = acts_by (running_of c.args.activation.now) c.args.node.now _ c.args.number _ _ _ c.in-Stop.is (goes_with (running_of c.args.activation.now) c.args.node.now.line _ _ _ _ _ _ (c.go_with-in-Stop.ensures _) (λ next. refl))
+
+pub returns-in-Trigger-clause-acts : goal.returns-in-Trigger-clause-acts
+returns-in-Trigger-clause-acts g c = acts_by (running_of c.args.activation.now) c.args.node.now _ c.args.number _ _ _ c.in-Trigger.is (c.trigger.ensures (running_of c.args.activation.now) c.args.number c.args.node.now.line)
+
+pub returns-in-Wait-clause-acts : goal.returns-in-Wait-clause-acts
+returns-in-Wait-clause-acts g c = acts_by (running_of c.args.activation.now) c.args.node.now _ c.args.number _ _ _ c.in-Wait.is (c.wait.ensures c.args.made.now (running_of c.args.activation.now) c.args.node.now.line c.args.node.now.next)

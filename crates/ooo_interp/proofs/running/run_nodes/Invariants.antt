@@ -6,9 +6,11 @@ use Rattle.ooo_interp.specs.Running.{from_node, turns_of}
 use Rattle.ooo_interp.proofs.running.run_nodes.Given as goal
 
 abbrev pub invariant-turns : goal.invariant-turns
-invariant-turns g l =
-    steps l.nodes (running_of l.activation) l.statements l.first (doing_of (g.L.Lent.sight l.fn.lent) l.fn.made)
-    ≡ from_node l.nodes (running_of l.activation) l.left l.number (doing_of (g.L.Lent.sight l.lent) l.made)
+invariant-turns g l = record {
+  does : steps l.nodes (running_of l.activation) l.statements l.first (doing_of (g.L.Lent.sight l.fn.lent) l.fn.made)
+      ≡ from_node l.nodes (running_of l.activation) l.left l.number (doing_of (g.L.Lent.sight l.lent) l.made);
+  kept : g.L.Lent.kept l.lent ≡ g.L.Lent.kept l.fn.lent;
+}
 
 abbrev pub decreases-turns : goal.decreases-turns
 decreases-turns g l = turns_of l.nodes l.left

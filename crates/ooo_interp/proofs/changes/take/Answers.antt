@@ -1,0 +1,6 @@
+-- What is taken is the first value, and the take is the node's effect.
+use Rattle.ooo_interp.proofs.Acted.{took}
+use Rattle.ooo_interp.proofs.changes.take.Goals as goal
+
+pub returns-clause-acts : goal.returns-clause-acts
+returns-clause-acts g c = λ r number line. took r number line _ _ _ _ _ _ _ c.args.made.now c.go_with.new.self _ c.in-Some.ensures c.set_slot.ensures.sight c.take.ensures.sight c.go_with.ensures

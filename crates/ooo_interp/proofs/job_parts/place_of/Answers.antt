@@ -1,0 +1,11 @@
+-- The closure gives a variable's number.
+use Rattle.std.proofs.Common.{rules}
+use Rattle.std.proofs.lemmas.List.Sorted.{answers_always}
+use Rattle.ooo_interp.proofs.Listed.{found}
+use Rattle.ooo_interp.proofs.job_parts.place_of.Goals as goal
+
+pub returns : goal.returns
+returns c =
+    let facts = c.binary_search_by_key.ensures in
+    let by_number = facts.position (λ carried. carried.0) (answers_always _ _ _ (λ f a r g called. search rules)) in
+    rw c.ok.ensures.value (found _ c.args.variable _ c.requires facts.bound by_number)

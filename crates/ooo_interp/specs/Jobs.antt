@@ -1,0 +1,164 @@
+-- Jobs: what an activation is on lent parts, when a job fits, and what a job gives.
+use Rattle.std.specs.Prelude.{◌≡◌, ℕ, ◌<◌, ◌≤◌, ◌⊎◌, List, length, map, Some, slice_get, IsSome, IfSome, IsSomeAnd, All, Any, AllPairs, Contains}
+use Rattle.ooo_time.specs.declared.stamp.Stamp.{Stamp}
+use Rattle.ooo_value.specs.declared.bound.BoundChannel.{BoundChannel}
+use Rattle.ooo_value.specs.declared.bound.BoundVariable.{BoundVariable}
+use Rattle.ooo_value.specs.declared.bound.ChannelKind.TheVariants as channel
+use Rattle.ooo_value.specs.declared.values.Value.{Value}
+use Rattle.ooo_value.specs.Values.{kind_of, IsOfKind}
+use Rattle.ooo_code.specs.declared.activation.Frame.{Frame}
+use Rattle.ooo_code.specs.declared.activation.Seen.{Seen}
+use Rattle.ooo_code.specs.declared.activation.Seen.TheVariants as seen
+use Rattle.ooo_code.specs.declared.design.Design.{Design}
+use Rattle.ooo_code.specs.declared.design.Proc.{Proc}
+use Rattle.ooo_code.specs.Expressions.{Sight, cells_of, fifo_seen, signal_seen}
+use Rattle.ooo_code.specs.Nodes.{by_nodes}
+use Rattle.ooo_code.specs.Outcomes.{Outcome, View}
+use Rattle.ooo_code.specs.Segments.{Accesses, entries_of}
+use Rattle.ooo_code.specs.Sound.{IsSound, signal_kind}
+use Rattle.ooo_code.specs.Touches.{Touch, Reads, Writes, ReadsSignal, HoldsReading, HoldsWriting}
+use Rattle.ooo_interp.specs.declared.job.Done.{Done}
+use Rattle.ooo_interp.specs.declared.job.Job.{Job}
+use Rattle.ooo_interp.specs.declared.processes.Ran.{Ran}
+use Rattle.ooo_interp.specs.declared.processes.Start.{Start}
+use Rattle.ooo_interp.specs.Carrying.{Carried, IsAscending, listed, numbers_of, put_in}
+
+-- ---- an activation on lent parts
+
+-- the view that parts give
+abbrev pub view_of : Stamp → Sight → View
+view_of stamp s = record { stamp = stamp; variables = s.variables; seen = s.seen }
+
+-- an activation that begins so, on parts that give this sight
+abbrev pub activation_of : Design → Start → Sight → Outcome Frame
+activation_of design start s =
+    by_nodes design start.statements start.process (record { entry = start.entry; slots = s.slots }) (view_of start.stamp s)
+
+-- what an activation came to, with the parts after it
+abbrev pub ran_on : Ran → Sight → Outcome Frame
+ran_on ran s = record {
+  deed = record { output = ran.output.items; variables = s.variables; effects = ran.effects.items; end = ran.end };
+  next = record { entry = ran.entry; slots = s.slots };
+}
+
+-- ---- when a job fits
+
+-- a frame has a value of its kind for each slot of the process, and stands at the entry of one of its segments
+pub record FitsFrame (design : Design) (process : Proc) (frame : Frame) : Type 0 where
+  pub slots : map kind_of frame.slots ≡ process.slots
+  pub entry : Contains (entries_of design process) frame.entry
+
+-- what is written may be changed, and what is read is carried
+pub record CarriesTouched (T : Touch → Type 0) (owned copied : List Carried) : Type 0 where
+  pub written : (x : ℕ) → T (Writes x) → IsSome (listed owned x)
+  pub read : (x : ℕ) → T (Reads x) → IsSome (listed owned x) ⊎ IsSome (listed copied x)
+
+-- it is what is seen of this signal, or of this fifo
+abbrev pub IsOfSignal : ℕ → Seen → Type 0
+IsOfSignal c (seen.Signal d v changed) = d ≡ c
+IsOfSignal c (seen.Fifo d values free) = ⊥
+
+abbrev pub IsOfFifo : ℕ → Seen → Type 0
+IsOfFifo c (seen.Signal d v changed) = ⊥
+IsOfFifo c (seen.Fifo d values free) = d ≡ c
+
+-- each signal that is read is seen, and each fifo of which an end is held
+pub record SeesTouched (T : Touch → Type 0) (sight : List Seen) : Type 0 where
+  pub signals : (c : ℕ) → T (ReadsSignal c) → Any (IsOfSignal c) sight
+  pub reading : (c : ℕ) → T (HoldsReading c) → Any (IsOfFifo c) sight
+  pub writing : (c : ℕ) → T (HoldsWriting c) → Any (IsOfFifo c) sight
+
+-- a variable has as many elements as its length, each of its kind
+pub record FitsCells (variable : BoundVariable) (cells : List Value) : Type 0 where
+  pub count : length cells ≡ variable.length
+  pub kinds : All (λ v. IsOfKind v variable.kind) cells
+
+-- what is carried is of a variable of the design
+abbrev pub FitsCarried : Design → Carried → Type 0
+FitsCarried design c = IsSomeAnd (slice_get design.variables c.0) (λ x. FitsCells x c.1)
+
+-- a fifo shows values of its kind, and has no more values and free slots than it holds
+pub record FitsFifo (fifo : BoundChannel) (values : List Value) (free : ℕ) : Type 0 where
+  pub is_fifo : fifo.kind ≡ channel.Fifo
+  pub kinds : All (λ v. IsOfKind v fifo.value) values
+  pub few : length values ≤ fifo.size
+  pub room : free ≤ fifo.size
+
+-- what is seen is of a channel of the design
+abbrev pub FitsSeen : Design → Seen → Type 0
+FitsSeen design (seen.Signal c v changed) = signal_kind (slice_get design.channels c) ≡ Some (kind_of v)
+FitsSeen design (seen.Fifo c values free) = IsSomeAnd (slice_get design.channels c) (λ f. FitsFifo f values free)
+
+-- a fifo shows no more values and free slots than the largest fifo holds
+abbrev pub IsFew : Seen → Type 0
+IsFew (seen.Signal c v changed) = Unit {0}
+IsFew (seen.Fifo c values free) = (length values ≤ 65536) × (free ≤ 65536)
+
+abbrev pub number_seen : Seen → ℕ
+number_seen (seen.Signal c v changed) = c
+number_seen (seen.Fifo c values free) = c
+
+-- what the segment touches that a job runs
+abbrev pub Touched : Job → Proc → Touch → Type 0
+Touched job process = Accesses job.design.value process job.frame.entry
+
+-- a job fits a process: it has all that the segment touches
+pub record FitsProcess (job : Job) (process : Proc) : Type 0 where
+  pub frame : FitsFrame job.design.value process job.frame
+  pub variables : CarriesTouched (Touched job process) job.owned.items job.copied.items
+  pub channels : SeesTouched (Touched job process) job.seen.items
+
+-- a job fits. Its lists ascend by number, so that each variable and each channel stands in them once.
+pub record Fits (job : Job) : Type 0 where
+  pub sound : IsSound job.design.value
+  pub process : IsSomeAnd (slice_get job.design.value.processes job.process) (FitsProcess job)
+  pub owned : All (FitsCarried job.design.value) job.owned.items
+  pub copied : All (FitsCarried job.design.value) job.copied.items
+  pub seen : All (FitsSeen job.design.value) job.seen.items
+  pub owned_ascends : IsAscending job.owned.items
+  pub copied_ascends : IsAscending job.copied.items
+  pub seen_ascends : AllPairs (λ a b. number_seen a < number_seen b) job.seen.items
+  pub apart : (x : ℕ) → IsSome (listed job.owned.items x) → ¬ IsSome (listed job.copied.items x)
+
+-- ---- what a job gives
+
+-- two lists of what is seen agree on what is touched
+pub record SeeAlike (T : Touch → Type 0) (a b : List Seen) : Type 0 where
+  pub signals : (c : ℕ) → T (ReadsSignal c) → signal_seen a c ≡ signal_seen b c
+  pub readable : (c : ℕ) → T (HoldsReading c) → (fifo_seen a c).values ≡ (fifo_seen b c).values
+  pub writable : (c : ℕ) → T (HoldsWriting c) → (fifo_seen a c).free ≡ (fifo_seen b c).free
+
+-- each of them has these elements among all variables
+abbrev pub AreAmong : List (List Value) → List Carried → Type 0
+AreAmong variables carried = All (λ c. cells_of variables c.0 ≡ c.1) carried
+
+-- a job is part of a view of all variables of its design: what it carries, and what it sees that its segment touches, is
+-- as in the view
+pub record IsPartOf (job : Job) (view : View) : Type 0 where
+  pub stamp : job.stamp ≡ view.stamp
+  pub count : length view.variables ≡ length job.design.value.variables
+  pub owned : AreAmong view.variables job.owned.items
+  pub copied : AreAmong view.variables job.copied.items
+  pub channels : IfSome (slice_get job.design.value.processes job.process) (λ process. SeeAlike (Touched job process) job.seen.items view.seen)
+
+-- the activation that a job asks for, on a view
+abbrev pub job_on : Job → View → Outcome Frame
+job_on job view = by_nodes job.design.value job.statements job.process job.frame view
+
+-- what was done, on a view: the variables that it was given to change are as it left them, and all others as they were
+abbrev pub done_on : Done → View → Outcome Frame
+done_on done view = record {
+  deed = record {
+    output = done.output.items;
+    variables = put_in done.owned.items view.variables;
+    effects = done.effects.items;
+    end = done.end;
+  };
+  next = done.frame;
+}
+
+-- what was done is of this job, and has its variables
+pub record IsOf (job : Job) (done : Done) : Type 0 where
+  pub process : done.process ≡ job.process
+  pub activation : done.activation ≡ job.activation
+  pub variables : numbers_of done.owned.items ≡ numbers_of job.owned.items

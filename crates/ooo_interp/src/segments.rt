@@ -1,0 +1,99 @@
+ghost use Rattle.std.specs.Prelude.{◌≡◌, IfOk, All};
+ghost use Rattle.ooo_code.specs.Outcomes.{View};
+ghost use Rattle.ooo_interp.specs.Jobs.{Fits, IsFew, IsOf, IsPartOf, done_on, job_on};
+ghost use Rattle.ooo_interp.specs.Ports.{all_shown, shown};
+
+use crate::fifo_port::FifoPort;
+use crate::job::{Done, Job};
+use crate::job_parts::JobParts;
+use crate::ports::Port;
+use crate::processes::{Ran, Start, run_process};
+use ooo_code::law::{changes_what_is_touched, reads_what_is_touched};
+use ooo_code::{Frame, Seen};
+use std::alloc::{AllocError, Global};
+
+/// Runs the segment of a job: the activation of its process, on every view of all variables that the job is part of.
+///
+/// # Errors
+///
+/// Only where memory runs out; the job is then given up.
+pub fn run_segment(alloc: Global, job: Job) -> Result<Done, AllocError>
+    requires { Fits job }
+    ensures does { IfOk result (λ done. (v : View) → IsPartOf job v → job_on job v ≡ done_on done v) }
+    ensures of { IfOk result (λ done. IsOf job done) }
+{
+    reads_what_is_touched();
+    changes_what_is_touched();
+    let Job {
+        design,
+        process,
+        activation,
+        stamp,
+        statements,
+        frame,
+        owned,
+        copied,
+        seen,
+    } = job;
+    let Frame { entry, slots } = frame;
+    let ports = ports_of(alloc, seen)?;
+    let mut parts = JobParts {
+        slots,
+        owned,
+        copied,
+        ports,
+        count: design.variables.len(),
+    };
+    let start = Start {
+        process,
+        entry,
+        stamp,
+        statements,
+    };
+    let ran = run_process(alloc, &mut parts, &design, start)?;
+    let Ran {
+        entry,
+        output,
+        effects,
+        end,
+    } = ran;
+    let JobParts {
+        slots,
+        owned,
+        copied: _,
+        ports: _,
+        count: _,
+    } = parts;
+    Ok(Done {
+        process,
+        activation,
+        frame: Frame { entry, slots },
+        owned,
+        effects,
+        output,
+        end,
+    })
+}
+
+// A port for each channel that is seen.
+fn ports_of(alloc: Global, seen: Vec<Seen>) -> Result<Vec<Port>, AllocError>
+    requires { All IsFew seen.items }
+    ensures { IfOk result (λ ports. all_shown ports.items ≡ seen.items) }
+{
+    let mut ports = Vec::with_capacity(alloc, seen.len())?;
+    for channel in seen {
+        ports.push(port_of(channel))?;
+    }
+    Ok(ports)
+}
+
+// The port of a channel.
+fn port_of(seen: Seen) -> Port
+    requires { IsFew seen }
+    ensures { shown result ≡ seen }
+{
+    match seen {
+        Seen::Signal(channel, v, changed) => Port::Signal(channel, v, changed),
+        Seen::Fifo(channel, values, free) => Port::Fifo(FifoPort::new(channel, values, free)),
+    }
+}

@@ -1,0 +1,48 @@
+//! The statement limit.
+
+use super::{Code, are_ints, binary, int, is_over, limit_of, locals};
+use ooo_code::{NodeExpr, NodeKind};
+use ooo_value::Op;
+use std::alloc::{AllocError, Global};
+use std::test::Fail;
+
+// A loop without end, of one statement.
+fn looping(alloc: Global) -> Result<Code, AllocError> {
+    let more = binary(alloc, Op::Add, NodeExpr::Slot(0), int(1))?;
+    let mut code = Code::new(alloc);
+    code.passed(NodeKind::Goto, 1)?;
+    code.counted(NodeKind::Set(0, more), 3, 0)?;
+    Ok(code)
+}
+
+#[test]
+fn a_loop_meets_the_limit_at_its_statement(rt: HostRuntime) -> Result<(), Fail> {
+    let alloc = rt.alloc();
+    for (statements, count) in [(0, 0), (1, 1), (2, 2), (1_000, 1_000)] {
+        let mut parts = locals(alloc, &[0])?;
+        let ran = looping(alloc)?.run(&mut parts, statements)?;
+        assert_eq!(rt; limit_of(&ran.end), Some(3));
+        assert!(rt; are_ints(&parts.slots, &[count]));
+    }
+    Ok(())
+}
+
+fn two_statements(alloc: Global) -> Result<Code, AllocError> {
+    let mut code = Code::new(alloc);
+    code.counted(NodeKind::Set(0, int(5)), 1, 1)?;
+    code.counted(NodeKind::Set(0, int(6)), 2, 2)?;
+    code.passed(NodeKind::End, 0)?;
+    Ok(code)
+}
+
+#[test]
+fn as_many_statements_as_the_limit_are_done(rt: HostRuntime) -> Result<(), Fail> {
+    let alloc = rt.alloc();
+    for (statements, line) in [(0, Some(1)), (1, Some(2)), (2, None), (3, None)] {
+        let mut parts = locals(alloc, &[0])?;
+        let ran = two_statements(alloc)?.run(&mut parts, statements)?;
+        assert_eq!(rt; limit_of(&ran.end), line);
+        assert_eq!(rt; is_over(&ran.end), line.is_none());
+    }
+    Ok(())
+}
