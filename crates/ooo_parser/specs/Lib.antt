@@ -4,3 +4,4 @@ pub mod Reaches
 pub mod Anywhere
 pub mod Sources
 pub mod Laws
+pub mod Answers

@@ -1,6 +1,7 @@
 ghost use Rattle.std.specs.Prelude.{◌≡◌, IfOk, MatchBool};
 ghost use Rattle.ooo_grammar.specs.Numbers.{number};
 ghost use Rattle.ooo_grammar.specs.Sets.{has};
+ghost use Rattle.ooo_parser.specs.Answers.{TellsForeign};
 ghost use Rattle.ooo_parser.specs.Refusals.{BreachOf, IsForeign, EndsInSignalOfType, IsSignalOfType, IsType, breach_of_first, foreign_words};
 
 use crate::readings::LIMITS;
@@ -63,7 +64,7 @@ fn ends_in_signal_of_type<'a>(symbols: &'a [Symbol<'a>]) -> Result<bool, AllocEr
 
 // Whether C++ or SystemC has the symbol after those that were read, and the grammar hasn't.
 fn is_foreign<'a>(read: &'a [Symbol<'a>], symbol: Symbol<'a>) -> Result<bool, AllocError>
-    ensures { IfOk result (λ b. MatchBool b (IsForeign read.now symbol.entry) (IsForeign read.now symbol.entry → ⊥)) }
+    ensures { IfOk result (TellsForeign read.now symbol.entry) }
 {
     if is_foreign_word(symbol.terminal) {
         Ok(true)

@@ -1,8 +1,6 @@
-ghost use Rattle.std.specs.Prelude.{◌≡◌, [], IfOk, MatchResult, Err};
-ghost use Rattle.ooo_grammar.specs.Forms.{Got, Outcome};
-ghost use Rattle.ooo_grammar.specs.Gives.{Gives, Stops};
-ghost use Rattle.ooo_grammar.specs.Laws.{whole};
+ghost use Rattle.std.specs.Prelude.{◌≡◌, IfOk};
 ghost use Rattle.ooo_grammar.specs.Roots.{expression_root, sum_root, whole_text};
+ghost use Rattle.ooo_parser.specs.Answers.{IfRefused, IsWholeOf};
 ghost use Rattle.ooo_parser.specs.Reaches.{FailsBy, root_of};
 ghost use Rattle.ooo_parser.specs.Refusals.{IsPartOf, IsRefused, IsTreeOf};
 ghost use Rattle.ooo_lexer.specs.declared.position.Position.{Position as PositionSpec};
@@ -20,7 +18,7 @@ use std::alloc::{AllocError, Global};
 
 // What a reader's answer says of whole texts: what follows a spelling is refused.
 fn whole<T: Drop>(answer: Read<'_, T>) -> Result<T, ReadError>
-    ensures { (o : Outcome T) → Gives o answer.entry → MatchResult result (λ tree. whole o ≡ Got tree []) (Stops (whole o)) }
+    ensures { IsWholeOf answer.entry result }
 {
     match answer {
         Ok((tree, rest)) => {
@@ -71,8 +69,7 @@ pub(crate) fn parse_symbols<'a>(
     end: Position,
 ) -> Result<Unit, ParseError>
     ensures tree { IfOk result (λ tree. IsTreeOf whole_text symbols.now tree) }
-    ensures refused { (breach : BreachSpec) (place : PositionSpec) → result ≡ Err (ParseError.Refused breach place) →
-        IsRefused whole_text symbols.now end breach place }
+    ensures refused { IfRefused result (IsRefused whole_text symbols.now end) }
 {
     readers();
     match whole(read_unit(alloc, symbols, LIMITS)) {
@@ -89,8 +86,7 @@ pub fn expression<'a>(
     end: Position,
 ) -> Result<(Expr, usize), ParseError>
     ensures tree { IfOk result (λ found. IsPartOf expression_root symbols.now found.0 found.1) }
-    ensures refused { (breach : BreachSpec) (place : PositionSpec) → result ≡ Err (ParseError.Refused breach place) →
-        IsRefused expression_root symbols.now end breach place }
+    ensures refused { IfRefused result (IsRefused expression_root symbols.now end) }
 {
     readers();
     beginnings_within();
@@ -107,8 +103,7 @@ pub fn sum<'a>(
     end: Position,
 ) -> Result<(Expr, usize), ParseError>
     ensures tree { IfOk result (λ found. IsPartOf sum_root symbols.now found.0 found.1) }
-    ensures refused { (breach : BreachSpec) (place : PositionSpec) → result ≡ Err (ParseError.Refused breach place) →
-        IsRefused sum_root symbols.now end breach place }
+    ensures refused { IfRefused result (IsRefused sum_root symbols.now end) }
 {
     readers();
     beginnings_within();
