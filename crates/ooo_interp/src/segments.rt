@@ -7,7 +7,7 @@ use crate::fifo_port::FifoPort;
 use crate::job::{Done, Job};
 use crate::job_parts::JobParts;
 use crate::ports::Port;
-use crate::processes::{Ran, Start, run_process};
+use crate::processes::{Start, run_process};
 use ooo_code::law::{changes_what_is_touched, reads_what_is_touched};
 use ooo_code::{Frame, Seen};
 use std::alloc::{AllocError, Global};
@@ -51,27 +51,17 @@ pub fn run_segment(alloc: Global, job: Job) -> Result<Done, AllocError>
         statements,
     };
     let ran = run_process(alloc, &mut parts, &design, start)?;
-    let Ran {
-        entry,
-        output,
-        effects,
-        end,
-    } = ran;
-    let JobParts {
-        slots,
-        owned,
-        copied: _,
-        ports: _,
-        count: _,
-    } = parts;
     Ok(Done {
         process,
         activation,
-        frame: Frame { entry, slots },
-        owned,
-        effects,
-        output,
-        end,
+        frame: Frame {
+            entry: ran.entry,
+            slots: parts.slots,
+        },
+        owned: parts.owned,
+        effects: ran.effects,
+        output: ran.output,
+        end: ran.end,
     })
 }
 
