@@ -21,7 +21,7 @@ const MODEL: &[u8] = b"#include <systemc.h>\n\
 
 const REPORT: &[u8] = b"a\nb\n10 ns\n== histories\n== end\nidle 10 ns 0\n";
 
-const WRONG_FORM: &[u8] = b"refused form NotBuilt\n";
+const NO_TEXT: &[u8] = b"refused parser Syntax 1:1048577\n";
 
 // How a call is fed: the most bytes of a read, the number of the read that fails (0: none), and so for the writes.
 #[derive(Clone, Copy)]
@@ -152,7 +152,7 @@ fn a_source_may_have_1048576_bytes(rt: HostRuntime) -> Result<(), Fail> {
     let alloc = rt.alloc();
     let blanks = vec![in alloc; b' '; 1_048_576]?;
     let outcome = call(alloc, "plain", blanks, PLENTY)?;
-    assert!(rt; outcome.is(Status::TextRefused, WRONG_FORM));
+    assert!(rt; outcome.is(Status::TextRefused, NO_TEXT));
     let blanks = vec![in alloc; b' '; 1_048_577]?;
     let outcome = call(alloc, "plain", blanks, PLENTY)?;
     assert!(rt; outcome.is(Status::SourceTooLong, b"refused source TooLong\n"));

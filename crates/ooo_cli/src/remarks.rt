@@ -1,4 +1,4 @@
-use ooo_messages::{lexer_breach, lexer_reason, words_reason};
+use ooo_messages::{lexer_breach, lexer_reason, parser_breach, parser_reason, words_reason};
 use ooo_sim::{MOST_BYTES, Status};
 use ooo_words::{Command, WordsError, read};
 use std::alloc::Global;
@@ -67,9 +67,9 @@ fn say_refused(rt: &impl Eprint, reason: &str) {
     let _ = eprintln!(rt; "peljouk: the words are refused: {reason}");
 }
 
-// A refusal's line is `refused lexer NAME LINE:COLUMN` or `refused form NotBuilt`.
+// A refusal's line is `refused LAYER NAME LINE:COLUMN` or `refused form NotBuilt`.
 fn remark_text(rt: &impl Eprint, line: &[u8]) {
-    match str::from_utf8(line).ok().and_then(lexer_refusal) {
+    match str::from_utf8(line).ok().and_then(refusal_in) {
         Some((reason, line, column)) => {
             let _ = eprintln!(rt;
                 "peljouk: the text is refused: line {line}, column {column}: {reason}"
@@ -82,12 +82,23 @@ fn remark_text(rt: &impl Eprint, line: &[u8]) {
     }
 }
 
-// The reason, the line and the column that a refusal of the lexer names.
-fn lexer_refusal(line: &str) -> Option<(&'static str, &str, &str)> {
-    let (name, place) = line.strip_prefix("refused lexer ")?.split_once(' ')?;
+// The reason, the line and the column that a refusal of a text names.
+fn refusal_in(line: &str) -> Option<(&'static str, &str, &str)> {
+    let (layer, named) = line.strip_prefix("refused ")?.split_once(' ')?;
+    let (name, place) = named.split_once(' ')?;
     let (line, column) = place.strip_suffix("\n")?.split_once(':')?;
-    let breach = lexer_breach(name)?;
-    Some((lexer_reason(breach), line, column))
+    Some((layer_reason(layer, name)?, line, column))
+}
+
+// What a layer's breach of this name says.
+fn layer_reason(layer: &str, name: &str) -> Option<&'static str> {
+    if layer == "lexer" {
+        return Some(lexer_reason(lexer_breach(name)?));
+    }
+    if layer == "parser" {
+        return Some(parser_reason(parser_breach(name)?));
+    }
+    None
 }
 
 fn say(rt: &impl Eprint, text: &str) {

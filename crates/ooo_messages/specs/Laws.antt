@@ -2,8 +2,14 @@
 use Rattle.std.specs.Prelude.{◌≡◌, Some}
 use Rattle.ooo_lexer.specs.Breaches.{name_of}
 use Rattle.ooo_lexer.specs.declared.breach.LexBreach.{LexBreach}
-use Rattle.ooo_messages.specs.Reasons.{breach_named}
+use Rattle.ooo_syntax.specs.Breaches.{name_of as parser_name_of}
+use Rattle.ooo_syntax.specs.declared.error.ParseBreach.{ParseBreach}
+use Rattle.ooo_messages.specs.Reasons.{breach_named, parse_breach_named}
 
 -- each breach of the lexer is found by its name
 abbrev pub IsFoundByName : Type 0
 IsFoundByName = (breach : LexBreach) → breach_named (name_of breach) ≡ Some breach
+
+-- so is each breach of the parser
+abbrev pub IsParseBreachFound : Type 0
+IsParseBreachFound = (breach : ParseBreach) → parse_breach_named (parser_name_of breach) ≡ Some breach

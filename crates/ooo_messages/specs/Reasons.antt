@@ -4,6 +4,9 @@ use Rattle.std.specs.Str.{bytes_eq}
 use Rattle.ooo_lexer.specs.Breaches.{name_of}
 use Rattle.ooo_lexer.specs.declared.breach.LexBreach.{LexBreach}
 use Rattle.ooo_lexer.specs.declared.breach.LexBreach.TheVariants as lexer
+use Rattle.ooo_syntax.specs.Breaches.{name_of as parser_name_of}
+use Rattle.ooo_syntax.specs.declared.error.ParseBreach.{ParseBreach}
+use Rattle.ooo_syntax.specs.declared.error.ParseBreach.TheVariants as parser
 use Rattle.ooo_words.specs.declared.refused.WordsBreach.{WordsBreach}
 use Rattle.ooo_words.specs.declared.refused.WordsBreach.TheVariants as words
 
@@ -25,11 +28,25 @@ lexer_reason lexer.CommentNotClosed = codes "this comment isn't closed"
 lexer_reason lexer.Directive = codes "this line includes none of the headers that may be included"
 lexer_reason lexer.BadNumber = codes "this is no number"
 
+-- what is wrong with a text that the grammar refuses
+abbrev pub parser_reason : ParseBreach → List ℕ
+parser_reason parser.Syntax = codes "no text of the grammar goes on with this"
+parser_reason parser.TooDeep = codes "this stands too deep, or is one operator too many"
+parser_reason parser.NotInProfile = codes "C++ or SystemC has this here, but the simulator doesn't take it"
+
 -- all that may be wrong with a text that can't be cut
 abbrev pub lexer_breaches : List LexBreach
 lexer_breaches = lexer.BadByte ∷ lexer.NumberTooWide ∷ lexer.TextNotClosed ∷ lexer.CommentNotClosed
     ∷ lexer.Directive ∷ lexer.BadNumber ∷ []
 
--- the breach of this name
+-- the breach of the lexer of this name
 abbrev pub breach_named : List ℕ → Option LexBreach
 breach_named name = find (λ breach. bytes_eq name (name_of breach)) lexer_breaches
+
+-- all that the grammar may refuse a text as
+abbrev pub parser_breaches : List ParseBreach
+parser_breaches = parser.Syntax ∷ parser.TooDeep ∷ parser.NotInProfile ∷ []
+
+-- the breach of the parser of this name
+abbrev pub parse_breach_named : List ℕ → Option ParseBreach
+parse_breach_named name = find (λ breach. bytes_eq name (parser_name_of breach)) parser_breaches

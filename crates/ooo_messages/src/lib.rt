@@ -4,7 +4,7 @@
 pub mod law;
 mod reasons;
 
-pub use reasons::{lexer_breach, lexer_reason, words_reason};
+pub use reasons::{lexer_breach, lexer_reason, parser_breach, parser_reason, words_reason};
 
 #[cfg(test)]
 mod tests;

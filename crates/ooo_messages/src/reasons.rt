@@ -1,7 +1,8 @@
 ghost use Rattle.std.specs.Prelude.{◌≡◌};
-ghost use Rattle.ooo_messages.specs.Reasons.{breach_named, lexer_reason, words_reason};
+ghost use Rattle.ooo_messages.specs.Reasons.{breach_named, lexer_reason, parse_breach_named, parser_reason, words_reason};
 
 use ooo_lexer::LexBreach;
+use ooo_syntax::ParseBreach;
 use ooo_words::WordsBreach;
 
 /// What is wrong with words.
@@ -32,7 +33,29 @@ pub fn lexer_reason(breach: LexBreach) -> &'static str
     }
 }
 
-/// The breach that has this name.
+/// What is wrong with a text that is cut into tokens and that the grammar refuses.
+pub fn parser_reason(breach: ParseBreach) -> &'static str
+    ensures { result.now ≡ parser_reason breach }
+{
+    match breach {
+        ParseBreach::Syntax => "no text of the grammar goes on with this",
+        ParseBreach::TooDeep => "this stands too deep, or is one operator too many",
+        ParseBreach::NotInProfile =>
+            "C++ or SystemC has this here, but the simulator doesn't take it",
+    }
+}
+
+/// The parser's breach that has this name.
+pub fn parser_breach(name: &str) -> Option<ParseBreach>
+    ensures { result ≡ parse_breach_named name.now }
+{
+    PARSER_BREACHES
+        .iter()
+        .copied()
+        .find(|known| name == known.name())
+}
+
+/// The lexer's breach that has this name.
 pub fn lexer_breach(name: &str) -> Option<LexBreach>
     ensures { result ≡ breach_named name.now }
 {
@@ -49,4 +72,10 @@ static LEXER_BREACHES: [LexBreach; 6] = [
     LexBreach::CommentNotClosed,
     LexBreach::Directive,
     LexBreach::BadNumber,
+];
+
+static PARSER_BREACHES: [ParseBreach; 3] = [
+    ParseBreach::Syntax,
+    ParseBreach::TooDeep,
+    ParseBreach::NotInProfile,
 ];

@@ -2,6 +2,16 @@
 use Rattle.std.specs.Prelude.{ℕ, List, Result, Ok, Err}
 use Rattle.ooo_lexer.specs.declared.error.LexError.{LexError}
 use Rattle.ooo_lexer.specs.declared.error.LexError.TheVariants as lexer
+use Rattle.ooo_lexer.specs.Positions.{position_of_end}
+use Rattle.ooo_lexer.specs.declared.position.Position.{Position}
+use Rattle.ooo_lexer.specs.declared.token.Token.{Token}
+use Rattle.ooo_syntax.specs.declared.error.ParseBreach.{ParseBreach}
+use Rattle.ooo_syntax.specs.declared.error.ParseError.{ParseError}
+use Rattle.ooo_syntax.specs.declared.unit.Unit.{Unit as UnitSpec}
+use Rattle.ooo_grammar.specs.Roots.{whole_text}
+use Rattle.ooo_parser.specs.Refusals.{IsTreeOf, IsRefused as AreRefused}
+use Rattle.ooo_parser.specs.Sources.{symbols_in}
+use Rattle.ooo_syntax.specs.declared.error.ParseError.TheVariants as parser
 use Rattle.ooo_threads.specs.declared.form.FormError.{FormError}
 use Rattle.ooo_threads.specs.declared.form.FormError.TheVariants as form
 use Rattle.ooo_sim.specs.declared.front.FrontError.{FrontError}
@@ -13,9 +23,21 @@ abbrev pub error_of_lexer : LexError → FrontError
 error_of_lexer (lexer.Refused breach at) = error.Refused (refusal.Lexer breach at)
 error_of_lexer lexer.OutOfMemory = error.OutOfMemory
 
+abbrev pub error_of_parser : ParseError → FrontError
+error_of_parser (parser.Refused breach at) = error.Refused (refusal.Parser breach at)
+error_of_parser parser.OutOfMemory = error.OutOfMemory
+
 abbrev pub error_of_form : FormError → FrontError
 error_of_form form.NotBuilt = error.Refused refusal.NotBuilt
 error_of_form form.OutOfMemory = error.OutOfMemory
+
+-- the grammar spells these tokens of a text
+abbrev pub AreSpelled : List ℕ → List Token → Type 0
+AreSpelled text tokens = (tree : UnitSpec) × IsTreeOf whole_text (symbols_in text tokens) tree
+
+-- it refuses them, as this and there
+abbrev pub AreMisspelled : List ℕ → List Token → ParseBreach → Position → Type 0
+AreMisspelled text tokens breach at = AreRefused whole_text (symbols_in text tokens) (position_of_end text) breach at
 
 -- a text that is refused is refused for this; out of memory says nothing of it
 abbrev pub Refuses : {T : Type 0} → List ℕ → Result T FrontError → Type 0

@@ -1,28 +1,53 @@
 -- Why a text is refused, layer by layer, and the line that says so.
-use Rattle.std.specs.Prelude.{ℕ, List, ◌++◌, codes, decimal}
+use Rattle.std.specs.Prelude.{ℕ, List, [], ◌++◌, codes, decimal}
 use Rattle.ooo_lexer.specs.Breaches.{HasBreach, name_of}
 use Rattle.ooo_lexer.specs.Pieces.{Piece, Cuts, lexemes}
+use Rattle.ooo_lexer.specs.Positions.{position_of_end, tokens_after}
 use Rattle.ooo_lexer.specs.declared.position.Position.{Position}
+use Rattle.ooo_syntax.specs.Breaches.{name_of as parser_name_of}
+use Rattle.ooo_syntax.specs.declared.error.ParseBreach.{ParseBreach}
+use Rattle.ooo_syntax.specs.declared.symbol.Symbol.{Symbol}
+use Rattle.ooo_syntax.specs.declared.unit.Unit.{Unit as UnitSpec}
+use Rattle.ooo_grammar.specs.Roots.{whole_text}
+use Rattle.ooo_parser.specs.Refusals.{IsTreeOf, IsRefused as AreRefused}
+use Rattle.ooo_parser.specs.Sources.{symbols_in}
 use Rattle.ooo_threads.specs.declared.model.ThreadModel.{ThreadModel}
 use Rattle.ooo_threads.specs.Ready.{IsModelOf}
 use Rattle.ooo_sim.specs.declared.front.Refusal.{Refusal}
 use Rattle.ooo_sim.specs.declared.front.Refusal.TheVariants as refusal
 
--- the text is cut into these pieces, whose lexemes are this model's
-pub record IsTextOf (text : List ℕ) (m : ThreadModel) : Type 0 where
-  pub pieces : List Piece
-  pub cut : Cuts text pieces
-  pub model : IsModelOf (lexemes pieces) m
+-- the symbols of a text that is cut into these pieces
+abbrev pub text_symbols : List ℕ → List Piece → List Symbol
+text_symbols text pieces = symbols_in text (tokens_after [] pieces)
 
--- the text is cut, and is no model's
-pub record IsNotBuilt (text : List ℕ) : Type 0 where
+-- the text is cut, and the grammar spells it as this tree
+pub record IsSpelled (text : List ℕ) (tree : UnitSpec) : Type 0 where
   pub pieces : List Piece
   pub cut : Cuts text pieces
+  pub spelled : IsTreeOf whole_text (text_symbols text pieces) tree
+
+-- the text is cut, and the grammar refuses it, as this and there
+pub record IsMisspelled (text : List ℕ) (breach : ParseBreach) (at : Position) : Type 0 where
+  pub pieces : List Piece
+  pub cut : Cuts text pieces
+  pub refused : AreRefused whole_text (text_symbols text pieces) (position_of_end text) breach at
+
+-- the text is cut into these pieces, whose lexemes are this model's; the grammar spells it
+pub record IsTextOf (text : List ℕ) (m : ThreadModel) : Type 0 where
+  pub tree : UnitSpec
+  pub spelled : IsSpelled text tree
+  pub model : IsModelOf (lexemes spelled.pieces) m
+
+-- the grammar spells the text, and it is no model's
+pub record IsNotBuilt (text : List ℕ) : Type 0 where
+  pub tree : UnitSpec
+  pub spelled : IsSpelled text tree
   pub none : (m : ThreadModel) → IsTextOf text m → ⊥
 
--- what each layer refuses: the lexer its breaches, the form that is built so far all that it doesn't read
+-- what each layer refuses: the lexer its breaches, the parser what the grammar doesn't spell, the form that is built so far all that it doesn't read
 abbrev pub IsRefused : List ℕ → Refusal → Type 0
 IsRefused text (refusal.Lexer breach at) = HasBreach text breach at
+IsRefused text (refusal.Parser breach at) = IsMisspelled text breach at
 IsRefused text refusal.NotBuilt = IsNotBuilt text
 
 -- a layer's line: its name, the breach's name, line and column
@@ -33,4 +58,5 @@ layer_line layer name at =
 -- the line of a refusal
 abbrev pub refusal_line : Refusal → List ℕ
 refusal_line (refusal.Lexer breach at) = layer_line (codes "lexer") (name_of breach) at
+refusal_line (refusal.Parser breach at) = layer_line (codes "parser") (parser_name_of breach) at
 refusal_line refusal.NotBuilt = codes "refused form NotBuilt\n"

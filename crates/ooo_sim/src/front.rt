@@ -1,10 +1,15 @@
-ghost use Rattle.std.specs.Prelude.{◌≡◌, ◌≤◌, length, IfOk};
+ghost use Rattle.std.specs.Prelude.{◌≡◌, ◌≤◌, length, All, Err, IfOk};
+ghost use Rattle.ooo_lexer.specs.Spans.{AreInOrder, IsWithin};
+ghost use Rattle.ooo_lexer.specs.declared.position.Position.{Position as PositionSpec};
+ghost use Rattle.ooo_syntax.specs.declared.error.ParseBreach.{ParseBreach as ParseBreachSpec};
 ghost use Rattle.ooo_threads.specs.Ready.{IsReady};
-ghost use Rattle.ooo_sim.specs.Front.{Refuses};
+ghost use Rattle.ooo_sim.specs.Front.{AreMisspelled, AreSpelled, Refuses};
 ghost use Rattle.ooo_sim.specs.Refusals.{IsTextOf};
 ghost use Rattle.ooo_sim.specs.declared.reply.TheConstants.{MOST_BYTES};
 
-use ooo_lexer::{LexBreach, LexError, Position, lex};
+use ooo_lexer::{LexBreach, LexError, Position, Token, lex};
+use ooo_parser::parse;
+use ooo_syntax::{ParseBreach, ParseError};
 use ooo_threads::{FormError, Ready};
 use std::alloc::Global;
 
@@ -13,6 +18,8 @@ use std::alloc::Global;
 pub enum Refusal {
     /// The text can't be cut into tokens: what is wrong, and where.
     Lexer(LexBreach, Position),
+    /// The tokens are no text of the grammar: what is wrong, and where.
+    Parser(ParseBreach, Position),
     /// The tokens are no model of the form that is built so far.
     NotBuilt,
 }
@@ -39,6 +46,20 @@ impl From<LexError> for FrontError {
     }
 }
 
+impl From<ParseError> for FrontError {
+    ghost use Rattle.std.specs.Prelude.{◌≡◌};
+    ghost use Rattle.ooo_sim.specs.Front.{error_of_parser};
+
+    ghost from_gives = { λ error own. own ≡ error_of_parser error };
+
+    fn from(error: ParseError) -> FrontError {
+        match error {
+            ParseError::Refused(breach, at) => FrontError::Refused(Refusal::Parser(breach, at)),
+            ParseError::OutOfMemory => FrontError::OutOfMemory,
+        }
+    }
+}
+
 impl From<FormError> for FrontError {
     ghost use Rattle.std.specs.Prelude.{◌≡◌};
     ghost use Rattle.ooo_sim.specs.Front.{error_of_form};
@@ -54,6 +75,7 @@ impl From<FormError> for FrontError {
 }
 
 /// The model of a text, or the refusal of the first layer that refuses it.
+#[tactic(auto, using(crate::proofs::Fronts::text_of, crate::proofs::Fronts::misspelled, crate::proofs::Fronts::not_built))]
 pub(crate) fn model_of(alloc: Global, text: &[u8]) -> Result<Ready, FrontError>
     requires { length text.now ≤ MOST_BYTES }
     ensures model { IfOk result (λ ready. IsTextOf text.now ready.model) }
@@ -61,5 +83,30 @@ pub(crate) fn model_of(alloc: Global, text: &[u8]) -> Result<Ready, FrontError>
     ensures refused { Refuses text.now result }
 {
     let tokens = lex(alloc, text)?;
+    spelled(alloc, text, &tokens)?;
     Ok(Ready::read(alloc, text, &tokens)?)
+}
+
+// That the grammar spells the tokens, or why it doesn't. No later layer takes its tree yet.
+fn spelled(alloc: Global, text: &[u8], tokens: &[Token]) -> Result<(), ParseError>
+    requires short { length text.now ≤ MOST_BYTES }
+    requires within { All (IsWithin text.now) tokens.now }
+    requires in_order { AreInOrder tokens.now }
+    ensures spelled { IfOk result (λ _. AreSpelled text.now tokens.now) }
+    ensures refused { (breach : ParseBreachSpec) (at : PositionSpec)
+        → result ≡ Err (ParseError.Refused breach at)
+        → AreMisspelled text.now tokens.now breach at }
+{
+    without_value(parse(alloc, text, tokens))
+}
+
+// The answer without its value, which goes.
+fn without_value<T: Drop, E>(answer: Result<T, E>) -> Result<(), E>
+    ensures ok { IfOk result (λ _. (value : T) × (answer ≡ Ok value)) }
+    ensures err { (error : E) → result ≡ Err error → answer ≡ Err error }
+{
+    match answer {
+        Ok(_) => Ok(()),
+        Err(error) => Err(error),
+    }
 }

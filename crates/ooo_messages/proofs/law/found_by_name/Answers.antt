@@ -1,6 +1,7 @@
 use Rattle.std.proofs.Common.{refl}
 use Rattle.ooo_lexer.specs.declared.breach.LexBreach.TheVariants.{BadByte, NumberTooWide, TextNotClosed, CommentNotClosed, Directive, BadNumber}
-use Rattle.ooo_messages.specs.Laws.{IsFoundByName}
+use Rattle.ooo_syntax.specs.declared.error.ParseBreach.TheVariants.{Syntax, TooDeep, NotInProfile}
+use Rattle.ooo_messages.specs.Laws.{IsFoundByName, IsParseBreachFound}
 use Rattle.ooo_messages.proofs.law.found_by_name.Goals as goal
 
 by_name : IsFoundByName
@@ -11,5 +12,13 @@ by_name CommentNotClosed = refl
 by_name Directive = refl
 by_name BadNumber = refl
 
-pub returns : goal.returns
-returns c = by_name
+parser_by_name : IsParseBreachFound
+parser_by_name Syntax = refl
+parser_by_name TooDeep = refl
+parser_by_name NotInProfile = refl
+
+pub returns-clause-lexer : goal.returns-clause-lexer
+returns-clause-lexer c = by_name
+
+pub returns-clause-parser : goal.returns-clause-parser
+returns-clause-parser c = parser_by_name
