@@ -1,7 +1,7 @@
 -- What `clap` makes of the words of a command whose settings have no breach.
 use Rattle.std.proofs.Common.{◌≡◌, ◌+◌, ◌||◌, ◌&&◌, ◌==◌, ℕ, suc, Bool, true, false, not, cond, List, [], ◌∷◌, ◌++◌, map, length, take, drop, sym, refl, ap, ap₂, ◌∙◌, append_assoc, subst, Option, Some, None, option_and_then, find, is_some, arith}
 use Rattle.std.specs.Prelude.{fold, nat_le, nat_lt, slice_get, slice_index}
-use Rattle.std.proofs.lemmas.Bool.{false≢true}
+use Rattle.std.proofs.lemmas.Bool.{false≢true, and_right}
 use Rattle.std.proofs.lemmas.Bool.Decides.{Decides-eqb}
 use Rattle.std.proofs.lemmas.List.{map-append, append-nil}
 use Rattle.std.proofs.lemmas.Slice.Eq.{bytes_eq-Decides}
@@ -179,10 +179,6 @@ fine command earlier s none = by_name (option_named command s.option) refl none 
 
 -- ---- the option that a word names
 
-and-false : (a b : Bool) → a ≡ false → (a && b) ≡ false
-and-false true b e = absurd (false≢true (sym e))
-and-false false b e = refl
-
 -- the words of two options are equal just where their names are
 name_word : (p o : OptionName) (word : Text) → word ≡ option_word o → bytes_eq word (option_word p) ≡ false
     → bytes_eq (option_text p) (option_text o) ≡ false
@@ -285,16 +281,12 @@ joined_is (x ∷ word) has =
     joined_step x word (is_equals x) (list_any is_equals word) _ ((Decides-eqb x 61).0) (joined_is word) has
 
 -- a value that an option takes begins with no hyphen
-and_false : (a : Bool) → (a && false) ≡ false
-and_false true = refl
-and_false false = refl
-
 number-hyphen : (least greatest : ℕ) (text : Text) → is_some (number_within least greatest (45 ∷ text)) ≡ false
 number-hyphen least greatest text =
     let size = length (45 ∷ text) in
     let leads = not (slice_index (45 ∷ text) 0 == 48) || (size == 1) in
     ap (λ b. is_some (option_and_then (within least greatest) (cond (b && leads) (Some (digits_value 10 (45 ∷ text))) None)))
-    (and_false (nat_le 1 size && nat_le size 10))
+    (and_right (nat_le 1 size && nat_le size 10) false refl)
 
 takes_value-hyphen : (o : OptionName) (text : Text) → takes_value o (45 ∷ text) ≡ false
 takes_value-hyphen Stop text = refl

@@ -1,9 +1,9 @@
 use Rattle.std.proofs.Common.{◌≡◌, ◌∙◌, sym, true, length, ap, nat_le, arith}
-use Rattle.std.proofs.lemmas.Bool.{le-leb}
+use Rattle.std.proofs.lemmas.Bool.{and_from, le-leb}
 use Rattle.std.specs.List.{list_all}
 use Rattle.ooo_threads.specs.Names.{has_name, function_names, members_keep_rules, names_keep_rules, member_names, main_names, threads_keep_rules}
 use Rattle.ooo_threads.specs.Bodies.{bytes_in}
-use Rattle.ooo_threads.proofs.Rules.{none_fails, all_pass, and_true}
+use Rattle.ooo_threads.proofs.Rules.{none_fails, all_pass}
 use Rattle.ooo_threads.proofs.names.processes_of.Goals as goal
 
 pub returns-clause-none : goal.returns-clause-none
@@ -20,4 +20,4 @@ returns-clause-all c =
     let few : nat_le (length c.args.model.now.threads) 256 ≡ true = le-leb _ _ (omega (arith, c.len.ensures, c.if-len-gt-MOST_THREADS.false)) in
     let threads : threads_keep_rules c.args.model.now ≡ true = sym c.in_ok-threads_keep_rules.ensures ∙ c.if-not-branch-2.false in
     all_pass (members_keep_rules c.args.model.now) (list_all (has_name (function_names c.args.model.now.functions)) c.args.model.now.threads)
-    (and_true _ _ (and_true _ _ (and_true _ _ members main) few) threads) c.resolve.result all
+    (and_from _ _ (and_from _ _ (and_from _ _ members main) few) threads) c.resolve.result all
