@@ -13,6 +13,7 @@ use ooo_code::{Effect, Node, NodeKind, SegmentEntry};
 use ooo_value::ProcessKind;
 
 // What a node does: the next node, or why there is none.
+#[inline(always)]
 pub(crate) fn act<'a, L: Lent>(
     lent: &mut L,
     made: &mut Made<'a>,

@@ -1,13 +1,16 @@
-ghost use Rattle.std.specs.Prelude.{◌≡◌, length, pos, slice_index_or};
-ghost use Rattle.ooo_code.specs.Expressions.{SignalSeen, element_at, index_in, is_edge, no_value, reading_of};
-ghost use Rattle.ooo_value.specs.Values.{number_of};
+ghost use Rattle.std.specs.Prelude.{◌≡◌, length, not, pos, slice_index_or, true, false};
+ghost use Rattle.ooo_code.specs.Expressions.{SignalSeen, by_truth, cells_of, element_at, index_in, is_edge, no_value, on_value, reading_of};
+ghost use Rattle.ooo_value.specs.Operators.{binary_of, inversion_of, negation_of};
+ghost use Rattle.ooo_value.specs.Values.{conversion_of, number_of, truth_of};
+ghost use Rattle.ooo_value.specs.declared.values.Value.TheVariants as ValueSpec;
 
 use crate::parts::Lent;
 use ooo_code::NodeExpr;
-use ooo_value::{Fault, Value, binary, convert, invert, negate, truth};
+use ooo_value::{Fault, Kind, Op, Value, binary, convert, invert, negate, truth};
 
 /// What an expression gives. Operands are evaluated from left to right, and `&&`, `||` and `? :` leave out what isn't
 /// needed (ISO C++ [expr.log.and], [expr.log.or], [expr.cond]). It takes no memory.
+#[cycle(evaluate)]
 #[tactic(auto, unfolding(ooo_code::specs::Expressions::reading_of))]
 pub fn evaluate<L: Lent>(lent: &L, e: &NodeExpr) -> Result<Value, Fault>
     ensures { result ≡ reading_of e.now (L.sight lent.now) }
@@ -16,36 +19,141 @@ pub fn evaluate<L: Lent>(lent: &L, e: &NodeExpr) -> Result<Value, Fault>
         NodeExpr::Constant(v) => Ok(*v),
         NodeExpr::Slot(n) => Ok(value_at(lent.slots(), *n as usize)),
         NodeExpr::Variable(x) => Ok(value_at(lent.cells(*x), 0)),
-        NodeExpr::Element(x, i) => {
-            let index = evaluate(lent, i.get())?;
-            element(lent.cells(*x), index)
-        }
+        NodeExpr::Element(x, i) => element_of(lent, *x, i.get()),
         NodeExpr::Signal(c) => Ok(lent.signal(*c).0),
         NodeExpr::Event(c) => Ok(Value::Bool(lent.signal(*c).1)),
         NodeExpr::Edge(c, up) => Ok(Value::Bool(has_edge(lent.signal(*c), *up))),
         NodeExpr::Available(c) => Ok(Value::Int(lent.available(*c))),
         NodeExpr::Free(c) => Ok(Value::Int(lent.free(*c))),
-        NodeExpr::Convert(kind, a) => Ok(convert(evaluate(lent, a.get())?, *kind)),
-        NodeExpr::Negate(a) => negate(evaluate(lent, a.get())?),
-        NodeExpr::Invert(a) => Ok(invert(evaluate(lent, a.get())?)),
-        NodeExpr::Not(a) => Ok(Value::Bool(!truth(evaluate(lent, a.get())?))),
-        NodeExpr::Binary(op, a, b) => {
-            let v = evaluate(lent, a.get())?;
-            let w = evaluate(lent, b.get())?;
-            binary(*op, v, w)
-        }
-        NodeExpr::And(a, b) => match truth(evaluate(lent, a.get())?) {
-            true => Ok(Value::Bool(truth(evaluate(lent, b.get())?))),
-            false => Ok(Value::Bool(false)),
-        },
-        NodeExpr::Or(a, b) => match truth(evaluate(lent, a.get())?) {
-            true => Ok(Value::Bool(true)),
-            false => Ok(Value::Bool(truth(evaluate(lent, b.get())?))),
-        },
-        NodeExpr::Choose(c, a, b) => match truth(evaluate(lent, c.get())?) {
-            true => evaluate(lent, a.get()),
-            false => evaluate(lent, b.get()),
-        },
+        NodeExpr::Convert(kind, a) => converted(lent, a.get(), *kind),
+        NodeExpr::Negate(a) => negated(lent, a.get()),
+        NodeExpr::Invert(a) => inverted(lent, a.get()),
+        NodeExpr::Not(a) => opposite(lent, a.get()),
+        NodeExpr::Binary(op, a, b) => combined(lent, *op, a.get(), b.get()),
+        NodeExpr::And(a, b) => both(lent, a.get(), b.get()),
+        NodeExpr::Or(a, b) => either(lent, a.get(), b.get()),
+        NodeExpr::Choose(c, a, b) => chosen(lent, c.get(), a.get(), b.get()),
+    }
+}
+
+// Each form that has parts is a function of its own: a function clears the room of all its values as it begins, which
+// took more time in one function for all forms than all else. It needs less of the stack, too.
+
+// What a part gives: at once, where it has no parts of its own.
+#[cycle(evaluate)]
+#[inline(always)]
+#[tactic(auto, unfolding(ooo_code::specs::Expressions::reading_of))]
+fn operand<L: Lent>(lent: &L, e: &NodeExpr) -> Result<Value, Fault>
+    ensures { result ≡ reading_of e.now (L.sight lent.now) }
+{
+    match e {
+        NodeExpr::Constant(v) => Ok(*v),
+        NodeExpr::Slot(n) => Ok(value_at(lent.slots(), *n as usize)),
+        NodeExpr::Variable(x) => Ok(value_at(lent.cells(*x), 0)),
+        _ => evaluate(lent, e),
+    }
+}
+
+// An element of a variable.
+#[cycle(evaluate)]
+fn element_of<L: Lent>(lent: &L, variable: u32, i: &NodeExpr) -> Result<Value, Fault>
+    ensures { let cells = cells_of (L.sight lent.now).variables variable in
+        result ≡ on_value (reading_of i.now (L.sight lent.now))
+        (λ v. element_at cells (index_in (length cells) (number_of v))) }
+{
+    let index = operand(lent, i)?;
+    element(lent.cells(variable), index)
+}
+
+// An operand in a kind.
+#[cycle(evaluate)]
+fn converted<L: Lent>(lent: &L, a: &NodeExpr, kind: Kind) -> Result<Value, Fault>
+    ensures { result ≡ on_value (reading_of a.now (L.sight lent.now)) (λ v. Ok (conversion_of v kind)) }
+{
+    let v = operand(lent, a)?;
+    Ok(convert(v, kind))
+}
+
+// `-`
+#[cycle(evaluate)]
+fn negated<L: Lent>(lent: &L, a: &NodeExpr) -> Result<Value, Fault>
+    ensures { result ≡ on_value (reading_of a.now (L.sight lent.now)) (λ v. negation_of v) }
+{
+    let v = operand(lent, a)?;
+    negate(v)
+}
+
+// `~`
+#[cycle(evaluate)]
+fn inverted<L: Lent>(lent: &L, a: &NodeExpr) -> Result<Value, Fault>
+    ensures { result ≡ on_value (reading_of a.now (L.sight lent.now)) (λ v. Ok (inversion_of v)) }
+{
+    let v = operand(lent, a)?;
+    Ok(invert(v))
+}
+
+// `!`
+#[cycle(evaluate)]
+fn opposite<L: Lent>(lent: &L, a: &NodeExpr) -> Result<Value, Fault>
+    ensures { result ≡ on_value (reading_of a.now (L.sight lent.now))
+        (λ v. Ok (ValueSpec.Bool (not (truth_of v)))) }
+{
+    let v = operand(lent, a)?;
+    Ok(Value::Bool(!truth(v)))
+}
+
+// An operator on two operands, the left one first.
+#[cycle(evaluate)]
+fn combined<L: Lent>(lent: &L, op: Op, a: &NodeExpr, b: &NodeExpr) -> Result<Value, Fault>
+    ensures { let s = L.sight lent.now in
+        result ≡ on_value (reading_of a.now s) (λ v. on_value (reading_of b.now s) (λ w. binary_of op v w)) }
+{
+    let left = operand(lent, a)?;
+    let right = operand(lent, b)?;
+    binary(op, left, right)
+}
+
+// `&&`
+#[cycle(evaluate)]
+fn both<L: Lent>(lent: &L, a: &NodeExpr, b: &NodeExpr) -> Result<Value, Fault>
+    ensures { let s = L.sight lent.now in result ≡ on_value (reading_of a.now s)
+        (λ v. by_truth v (on_value (reading_of b.now s) (λ w. Ok (ValueSpec.Bool (truth_of w))))
+        (Ok (ValueSpec.Bool false))) }
+{
+    let v = operand(lent, a)?;
+    if !truth(v) {
+        return Ok(Value::Bool(false));
+    }
+    let w = operand(lent, b)?;
+    Ok(Value::Bool(truth(w)))
+}
+
+// `||`
+#[cycle(evaluate)]
+fn either<L: Lent>(lent: &L, a: &NodeExpr, b: &NodeExpr) -> Result<Value, Fault>
+    ensures { let s = L.sight lent.now in result ≡ on_value (reading_of a.now s)
+        (λ v. by_truth v (Ok (ValueSpec.Bool true))
+        (on_value (reading_of b.now s) (λ w. Ok (ValueSpec.Bool (truth_of w))))) }
+{
+    let v = operand(lent, a)?;
+    if truth(v) {
+        return Ok(Value::Bool(true));
+    }
+    let w = operand(lent, b)?;
+    Ok(Value::Bool(truth(w)))
+}
+
+// `? :`
+#[cycle(evaluate)]
+fn chosen<L: Lent>(lent: &L, c: &NodeExpr, a: &NodeExpr, b: &NodeExpr) -> Result<Value, Fault>
+    ensures { let s = L.sight lent.now in result ≡ on_value (reading_of c.now s)
+        (λ v. by_truth v (reading_of a.now s) (reading_of b.now s)) }
+{
+    let v = operand(lent, c)?;
+    if truth(v) {
+        evaluate(lent, a)
+    } else {
+        evaluate(lent, b)
     }
 }
 

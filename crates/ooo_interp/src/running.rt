@@ -94,7 +94,8 @@ fn go_on<'a, L: Lent>(
     Ok(counted)
 }
 
-// Does what a node does.
+// Does what a node does. What it answers is large, so it isn't handed through the stack.
+#[inline(always)]
 fn do_node<'a, L: Lent>(
     lent: &mut L,
     made: &mut Made<'a>,
