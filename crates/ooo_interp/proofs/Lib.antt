@@ -6,3 +6,4 @@ pub mod Placed
 pub mod Stable
 pub mod Views
 pub mod JobLemmas
+pub mod SmallJob

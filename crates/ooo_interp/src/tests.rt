@@ -1,9 +1,11 @@
 //! Activations worked by hand, on parts that stand in lists.
 
+mod expressions;
 mod faults;
 mod fifos;
 mod limits;
 mod node_kinds;
+mod segments;
 mod waits;
 
 use crate::{FifoPort, Port, Ran, Start, Whole, run_process};

@@ -1,6 +1,6 @@
 //! The statement limit.
 
-use super::{Code, are_ints, binary, int, is_over, limit_of, locals};
+use super::{Code, are_ints, binary, int, is_over, limit_of, locals, printed};
 use ooo_code::{NodeExpr, NodeKind};
 use ooo_value::Op;
 use std::alloc::{AllocError, Global};
@@ -23,6 +23,35 @@ fn a_loop_meets_the_limit_at_its_statement(rt: HostRuntime) -> Result<(), Fail> 
         let ran = looping(alloc)?.run(&mut parts, statements)?;
         assert_eq!(rt; limit_of(&ran.end), Some(3));
         assert!(rt; are_ints(&parts.slots, &[count]));
+    }
+    Ok(())
+}
+
+// A loop of a test and two statements, each on a line of its own.
+fn turning(alloc: Global) -> Result<Code, AllocError> {
+    let more = binary(alloc, Op::Add, NodeExpr::Slot(0), int(1))?;
+    let mut code = Code::new(alloc);
+    code.counted(NodeKind::Test(int(1), 3), 1, 1)?;
+    code.counted(NodeKind::Set(0, more), 2, 2)?;
+    code.says("x", 3, 0)?;
+    code.passed(NodeKind::End, 0)?;
+    Ok(code)
+}
+
+#[test]
+fn the_limit_falls_on_each_statement_of_a_loop(rt: HostRuntime) -> Result<(), Fail> {
+    let alloc = rt.alloc();
+    for (statements, line, count, text) in [
+        (6, 1, 2, "xx"),
+        (7, 2, 2, "xx"),
+        (8, 3, 3, "xx"),
+        (9, 1, 3, "xxx"),
+    ] {
+        let mut parts = locals(alloc, &[0])?;
+        let ran = turning(alloc)?.run(&mut parts, statements)?;
+        assert_eq!(rt; limit_of(&ran.end), Some(line));
+        assert!(rt; are_ints(&parts.slots, &[count]));
+        assert!(rt; printed(&ran, text));
     }
     Ok(())
 }
