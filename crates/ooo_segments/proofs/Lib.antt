@@ -1,0 +1,10 @@
+pub mod Lists
+pub mod Marks
+pub mod Ascending
+pub mod SearchLemmas
+pub mod Where
+pub mod Within
+pub mod Additions
+pub mod EdgeLemmas
+pub mod Counts
+pub mod Links

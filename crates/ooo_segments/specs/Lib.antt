@@ -1,0 +1,5 @@
+pub mod Numbers
+pub mod Searches
+pub mod Beginnings
+pub mod Edges
+pub mod GraphErrors

@@ -1,0 +1,27 @@
+//! The segments of a design, and the edges within its processes.
+//!
+//! Proved: [`graph`] gives exactly the segments of the definition (the nodes that are reachable from a process's start, or
+//! after one of its waits, without passing a wait), ascending, process by process, each process's start first and then its
+//! waits in order of their nodes; and exactly the edges of the definition, ascending, each with its delay. It answers
+//! `TooManySegments` exactly where a design has more than [`Graph::GREATEST_SEGMENTS`]. Else only memory can run out.
+//!
+//! A design's nodes are gone through once for each segment.
+#![tactic(auto)]
+
+mod counting;
+mod edges;
+mod error;
+mod graphs;
+mod making;
+mod numbers;
+mod searching;
+mod segments;
+mod waits;
+
+pub use error::GraphError;
+pub use graphs::{Edge, Graph};
+pub use making::graph;
+pub use numbers::NumberSet;
+
+#[cfg(test)]
+mod tests;
