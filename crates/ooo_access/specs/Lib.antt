@@ -1,0 +1,4 @@
+pub mod Access
+pub mod Notices
+pub mod Told
+pub mod Calls
