@@ -1,0 +1,13 @@
+pub mod Orders
+pub mod Keeping
+pub mod Logging
+pub mod Moves
+pub mod Fifos
+pub mod Renewals
+pub mod Starts
+pub mod Steps
+pub mod Banked
+pub mod Making
+pub mod Forgetting
+pub mod Applying
+pub mod Asking

@@ -1,0 +1,17 @@
+use Rattle.std.proofs.Common.{◌≡◌, ◌≢◌, ℕ, ◌+◌, [], ◌∷◌, refl, ap, sym, subst, eq-eqb, cond, arith}
+use Rattle.std.proofs.lemmas.Bool.{ne_eqb}
+use Rattle.ooo_value.specs.declared.bound.ChannelKind.TheVariants as kind
+use Rattle.ooo_code.specs.declared.activation.Effect.TheVariants as effect
+use Rattle.ooo_channels.specs.Cycles.{cycle_of}
+use Rattle.ooo_channels.specs.Calls.{channel_calls}
+use Rattle.ooo_channels.specs.Bank.{BankState, IsBankAfter, Covers}
+use Rattle.ooo_channels.proofs.Banked.{channel_kept, channel_there}
+use Rattle.ooo_channels.proofs.bank.Bank.signal.Goals as goal
+
+pub returns : goal.returns
+returns c = λ ops was has.
+    let i = c.self.inside in
+    let h = subst (λ (b : BankState). IsBankAfter b ops) (sym c.self.view_is) was in
+    let lt = channel_there i.channels.items i.kinds.items i.events.items i.below ops c.args.id kind.Signal h has in
+    c.seen.ensures c.args.id i.below (cycle_of ops c.args.id) (channel_calls ops)
+    (channel_kept i.channels.items i.kinds.items i.events.items i.below ops c.args.id _ h lt c.index.ensures)

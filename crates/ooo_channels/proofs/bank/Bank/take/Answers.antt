@@ -1,0 +1,45 @@
+use Rattle.std.proofs.Common.{◌≡◌, ◌≢◌, ℕ, ◌+◌, [], ◌∷◌, refl, ap, sym, subst, eq-eqb, cond, arith}
+use Rattle.std.proofs.lemmas.Bool.{ne_eqb}
+use Rattle.ooo_value.specs.declared.bound.ChannelKind.TheVariants as kind
+use Rattle.ooo_code.specs.declared.activation.Effect.TheVariants as effect
+use Rattle.ooo_channels.specs.Cycles.{cycle_of}
+use Rattle.ooo_channels.specs.Calls.{channel_calls}
+use Rattle.ooo_channels.specs.Bank.{BankState, IsBankAfter, Covers}
+use Rattle.ooo_channels.proofs.Banked.{channel_kept, channel_there, channel_applied, covers_channel, room_for_one}
+use Rattle.ooo_channels.proofs.bank.Bank.take.Goals as goal
+
+pub take-requires-clause-room : goal.take-requires-clause-room
+take-requires-clause-room c =
+    let may = c.requires.may in
+    let i = c.self.inside in
+    let h = subst (λ (b : BankState). IsBankAfter b may.0) (sym c.self.view_is) may.1 in
+    let lt = channel_there i.channels.items i.kinds.items i.events.items i.below may.0 c.args.id kind.Fifo h may.2.names in
+    room_for_one i.channels.items i.kinds.items i.events.items i.below (effect.Take c.args.id) c.args.id _ lt c.index_mut.ensures.value (eq-eqb c.args.id c.args.id refl)
+    (subst (λ (b : BankState). Covers b (effect.Take c.args.id ∷ [])) (sym c.self.view_is) c.requires.room)
+
+pub take-requires-clause-may : goal.take-requires-clause-may
+take-requires-clause-may c =
+    let may = c.requires.may in
+    let i = c.self.inside in
+    let h = subst (λ (b : BankState). IsBankAfter b may.0) (sym c.self.view_is) may.1 in
+    let lt = channel_there i.channels.items i.kinds.items i.events.items i.below may.0 c.args.id kind.Fifo h may.2.names in
+    (c.args.id, cycle_of may.0 c.args.id, channel_calls may.0, channel_kept i.channels.items i.kinds.items i.events.items i.below may.0 c.args.id _ h lt c.index_mut.ensures.value, may.2.in_order, may.2.place)
+
+pub returns : goal.returns
+returns c =
+    let i = c.self.inside in
+    let had = c.requires.may in
+    let g = subst (λ (b : BankState). IsBankAfter b had.0) (sym c.self.view_is) had.1 in
+    let lt = channel_there i.channels.items i.kinds.items i.events.items i.below had.0 c.args.id kind.Fifo g had.2.names in
+    record {
+      after = λ ops was may.
+          let h = subst (λ (b : BankState). IsBankAfter b ops) (sym c.self.view_is) was in
+          channel_applied i.channels.items i.kinds.items i.events.items i.below ops c.args.at (effect.Take c.args.id) c.args.id kind.Fifo c.take.new.self h may.names c.take.ensures.kind
+          (eq-eqb c.args.id c.args.id refl) (λ d ne. ne_eqb d c.args.id ne) (λ e. refl)
+          (c.take.ensures.after c.args.id (cycle_of ops c.args.id) (channel_calls ops)
+          (channel_kept i.channels.items i.kinds.items i.events.items i.below ops c.args.id _ h lt c.index_mut.ensures.value) may.in_order may.place);
+      room = λ more room.
+          covers_channel i.channels.items i.kinds.items i.events.items i.below (effect.Take c.args.id) more c.args.id _ c.take.new.self lt c.index_mut.ensures.value
+          (eq-eqb c.args.id c.args.id refl) (λ d ne. ne_eqb d c.args.id ne) (λ e. refl) c.take.ensures.room
+          (subst (λ (b : BankState). Covers b (effect.Take c.args.id ∷ more)) (sym c.self.view_is) room);
+    }

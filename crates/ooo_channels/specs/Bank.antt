@@ -1,0 +1,57 @@
+-- A bank, by the operations that were applied to it.
+use Rattle.std.specs.Prelude.{◌≡◌, ℕ, ◌<◌, ◌≤◌, List, [], ◌∷◌, length, Option, Some, slice_get, slice_index_or}
+use Rattle.ooo_time.specs.declared.stamp.Stamp.{Stamp}
+use Rattle.ooo_value.specs.declared.bound.BoundChannel.{BoundChannel}
+use Rattle.ooo_value.specs.declared.bound.BoundEvent.{BoundEvent}
+use Rattle.ooo_value.specs.declared.bound.BoundEvent.TheVariants as event
+use Rattle.ooo_events.specs.Events.{EventState}
+use Rattle.ooo_code.specs.declared.activation.Effect.{Effect}
+use Rattle.ooo_channels.specs.declared.channel.ChannelState.{ChannelState}
+use Rattle.ooo_channels.specs.Operations.{Operations, after_effect, is_on, is_call_on}
+use Rattle.ooo_channels.specs.Conditions.{MayApply}
+use Rattle.ooo_channels.specs.Cycles.{cycle_of, first_cycle}
+use Rattle.ooo_channels.specs.Calls.{own_calls, channel_calls}
+use Rattle.ooo_channels.specs.Kept.{IsEventKept, IsChannelAfter, HasKind}
+use Rattle.ooo_channels.specs.Room.{HasRoom, count}
+
+-- what a bank keeps
+pub record BankState : Type 0 where
+  pub channels : List ChannelState
+  pub kinds : List BoundEvent
+  pub events : List EventState
+  pub below : Stamp
+
+-- a bank to which these operations were applied
+pub record IsBankAfter (bank : BankState) (ops : Operations) : Type 0 where
+  pub channel_count : length bank.channels ≡ length ops.channels
+  pub event_count : length bank.events ≡ length ops.events
+  pub kinds : bank.kinds ≡ ops.events
+  pub below : bank.below ≡ ops.below
+  pub channel_kinds : (c : ℕ) (d : ChannelState) (b : BoundChannel) → slice_get ops.channels c ≡ Some b → HasKind b.kind (slice_index_or bank.channels c d)
+  pub channels : (c : ℕ) (d : ChannelState) → c < length bank.channels → IsChannelAfter c ops.below (cycle_of ops c) (channel_calls ops) (slice_index_or bank.channels c d)
+  pub events : (e : ℕ) (d : EventState) → slice_get ops.events e ≡ Some event.Own → IsEventKept ops.below (slice_index_or bank.events e d) (own_calls ops e)
+
+-- a bank has room for these effects: each channel and each event for those on it
+pub record Covers (bank : BankState) (effects : List Effect) : Type 0 where
+  pub channels : (c : ℕ) (d : ChannelState) → c < length bank.channels → HasRoom (count (is_on c) effects) (slice_index_or bank.channels c d)
+  pub events : (e : ℕ) (d : EventState) → e < length bank.events → count (is_call_on e) effects ≤ (slice_index_or bank.events e d).spare
+
+-- what is kept of channel c of a design as it starts
+pub record IsFirst (channels : List BoundChannel) (c : ℕ) (s : ChannelState) : Type 0 where
+  pub kind : (b : BoundChannel) → slice_get channels c ≡ Some b → HasKind b.kind s
+  pub first : (below : Stamp) → IsChannelAfter c below (first_cycle (slice_get channels c)) (λ k. []) s
+
+-- the first channels of a design, so many, as they start
+pub record AreFirst (channels : List BoundChannel) (count : ℕ) (made : List ChannelState) : Type 0 where
+  pub count_is : length made ≡ count
+  pub first : (c : ℕ) (d : ChannelState) → c < length made → IsFirst channels c (slice_index_or made c d)
+
+-- so many events on which no call was made
+pub record AreNew (count : ℕ) (made : List EventState) : Type 0 where
+  pub count_is : length made ≡ count
+  pub new : (e : ℕ) (d : EventState) (below : Stamp) → e < count → IsEventKept below (slice_index_or made e d) []
+
+-- one effect was applied to a bank: whatever was applied before, it is applied now too, and the room for more is left
+pub record Applies (old new : BankState) (at : Stamp) (f : Effect) : Type 0 where
+  pub after : (ops : Operations) → IsBankAfter old ops → MayApply ops at f → IsBankAfter new (after_effect at ops f)
+  pub room : (more : List Effect) → Covers old (f ∷ more) → Covers new more

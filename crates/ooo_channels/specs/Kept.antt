@@ -1,0 +1,112 @@
+-- What a bank keeps of a channel and of an event.
+use Rattle.std.specs.Prelude.{◌≡◌, ℕ, ◌+◌, ◌≤◌, List, [], ◌++◌, length, map, take, ⊤}
+use Rattle.std.specs.Option.{ForSome}
+use Rattle.ooo_time.specs.declared.stamp.Stamp.{Stamp}
+use Rattle.ooo_time.specs.Stamps.{IsBefore}
+use Rattle.ooo_value.specs.declared.bound.BoundEvent.{BoundEvent}
+use Rattle.ooo_value.specs.declared.bound.BoundEvent.TheVariants as event
+use Rattle.ooo_value.specs.declared.bound.ChannelKind.{ChannelKind}
+use Rattle.ooo_value.specs.declared.bound.ChannelKind.TheVariants as channel
+use Rattle.ooo_events.specs.declared.call.Call.{Call}
+use Rattle.ooo_events.specs.Calls.{Follows}
+use Rattle.ooo_events.specs.Events.{EventState, IsEventAfter, Remembers}
+use Rattle.ooo_code.specs.Channels.{Signal, Fifo, IsSignal, IsFifo, available}
+use Rattle.ooo_channels.specs.declared.signal.SignalState.{SignalState}
+use Rattle.ooo_channels.specs.declared.fifo.FifoState.{FifoState}
+use Rattle.ooo_channels.specs.declared.channel.ChannelState.{ChannelState}
+use Rattle.ooo_channels.specs.declared.channel.ChannelState.TheVariants as state
+use Rattle.ooo_channels.specs.Operations.{Operation}
+use Rattle.ooo_channels.specs.Cycles.{Cycle, cycle_after}
+use Rattle.ooo_channels.specs.Calls.{renewals}
+use Rattle.ooo_channels.specs.Entries.{took_entry}
+
+-- an event on which these calls were made, and which forgot no firing from a stamp on
+pub record IsEventKept (below : Stamp) (event : EventState) (calls : List Call) : Type 0 where
+  pub after : IsEventAfter event calls
+  pub remembers : (s : Stamp) → ¬ IsBefore s below → Remembers event s
+
+-- an event of a channel, the last call on which isn't later than the channel's cycle
+pub record IsNotice (below stamp : Stamp) (event : EventState) (calls : List Call) : Type 0 where
+  pub kept : IsEventKept below event calls
+  pub by : Follows event.last stamp
+
+-- the signal that is kept
+abbrev pub signal_of : SignalState → Signal
+signal_of s = record { current = s.current; requested = s.requested; changed = s.changed }
+
+-- what is kept of a signal is the signal in its cycle
+pub record IsSignalIn (s : SignalState) (x : Cycle) : Type 0 where
+  pub stamp : s.stamp ≡ x.stamp
+  pub channel : IsSignal (signal_of s) ≡ x.channel
+  pub history : s.history.items ≡ x.history
+
+-- what is kept of a fifo is the fifo in its cycle: its values in one queue, and what was read in the cycle in the history
+pub record IsFifoIn (s : FifoState) (x : Cycle) : Type 0 where
+  pub fifo : Fifo
+  pub channel : IsFifo fifo ≡ x.channel
+  pub stamp : s.stamp ≡ x.stamp
+  pub size : fifo.size ≡ s.size
+  pub values : available fifo ++ fifo.written ≡ s.values.items
+  pub read : fifo.read ≡ s.read
+  pub written : length fifo.written ≡ s.written
+  pub within : fifo.read ≤ length fifo.held
+  pub fits : length fifo.held + length fifo.written ≤ fifo.size
+  pub history : s.history.items ≡ x.history ++ map (took_entry x.stamp) (take fifo.read fifo.held)
+
+-- a signal in its cycle, with its events
+pub record IsSignalAfter (c : ℕ) (below : Stamp) (x : Cycle) (calls : BoundEvent → List Call) (s : SignalState) : Type 0 where
+  pub cycle : IsSignalIn s x
+  pub changes : IsNotice below x.stamp s.changes (calls (event.Changed c))
+  pub rises : IsNotice below x.stamp s.rises (calls (event.Rise c))
+  pub falls : IsNotice below x.stamp s.falls (calls (event.Fall c))
+
+-- a fifo in its cycle, with its events
+pub record IsFifoAfter (c : ℕ) (below : Stamp) (x : Cycle) (calls : BoundEvent → List Call) (s : FifoState) : Type 0 where
+  pub cycle : IsFifoIn s x
+  pub puts : IsNotice below x.stamp s.puts (calls (event.Written c))
+  pub takes : IsNotice below x.stamp s.takes (calls (event.Taken c))
+
+-- channel c in its cycle, with its events
+abbrev pub IsChannelAfter : (c : ℕ) → (below : Stamp) → Cycle → (BoundEvent → List Call) → ChannelState → Type 0
+IsChannelAfter c below x calls (state.Signal s) = IsSignalAfter c below x calls s
+IsChannelAfter c below x calls (state.Fifo f) = IsFifoAfter c below x calls f
+
+-- channel c after one more operation on it, with its events
+abbrev pub IsChannelNext : (c : ℕ) → (below : Stamp) → Cycle → (BoundEvent → List Call) → Operation → ChannelState → Type 0
+IsChannelNext c below x calls o s =
+    let next = cycle_after x o in IsChannelAfter c below next (λ k. calls k ++ renewals k next.channel o) s
+
+-- it is a channel of this kind
+abbrev pub HasKind : ChannelKind → ChannelState → Type 0
+HasKind channel.Signal (state.Signal s) = ⊤
+HasKind channel.Fifo (state.Fifo f) = ⊤
+HasKind _ _ = ⊥
+
+-- the events of a signal, no call on which is later than its cycle
+pub record AreSignalEventsBy (s : SignalState) : Type 0 where
+  pub changes : Follows s.changes.last s.stamp
+  pub rises : Follows s.rises.last s.stamp
+  pub falls : Follows s.falls.last s.stamp
+
+-- the events of a fifo, no call on which is later than its cycle
+pub record AreFifoEventsBy (s : FifoState) : Type 0 where
+  pub puts : Follows s.puts.last s.stamp
+  pub takes : Follows s.takes.last s.stamp
+
+-- an event of a signal
+abbrev pub IsSignalEvent : BoundEvent → Type 0
+IsSignalEvent (event.Changed c) = ⊤
+IsSignalEvent (event.Rise c) = ⊤
+IsSignalEvent (event.Fall c) = ⊤
+IsSignalEvent _ = ⊥
+
+-- an event of a fifo
+abbrev pub IsFifoEvent : BoundEvent → Type 0
+IsFifoEvent (event.Written c) = ⊤
+IsFifoEvent (event.Taken c) = ⊤
+IsFifoEvent _ = ⊥
+
+-- a channel has such an event
+abbrev pub HasEvent : BoundEvent → ChannelState → Type 0
+HasEvent k (state.Signal s) = IsSignalEvent k
+HasEvent k (state.Fifo f) = IsFifoEvent k

@@ -1,0 +1,8 @@
+pub mod Operations
+pub mod Entries
+pub mod Cycles
+pub mod Calls
+pub mod Conditions
+pub mod Kept
+pub mod Room
+pub mod Bank

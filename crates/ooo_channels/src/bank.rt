@@ -1,0 +1,253 @@
+ghost use Rattle.std.specs.Prelude.{◌≡◌, ◌≢◌, ◌++◌, List, [], ◌∷◌, length, IfOk, MatchOption};
+ghost use Rattle.ooo_time.specs.Stamps.{IsBefore};
+ghost use Rattle.ooo_events.specs.Firings.{IsFirstAfter};
+ghost use Rattle.ooo_code.specs.declared.activation.Effect.{Effect as EffectSpec};
+ghost use Rattle.ooo_value.specs.declared.bound.ChannelKind.TheVariants as kind;
+ghost use Rattle.ooo_channels.specs.Operations.{Operations, no_operations, after_effects, after_forgetting};
+ghost use Rattle.ooo_channels.specs.Cycles.{channel_in, readable, writable, IsSeenAs};
+ghost use Rattle.ooo_channels.specs.Calls.{FiresAt, channel_of};
+ghost use Rattle.ooo_code.specs.declared.activation.Effect.TheVariants as effect;
+ghost use Rattle.ooo_value.specs.declared.bound.BoundEvent.TheVariants as event;
+ghost use Rattle.ooo_channels.specs.Conditions.{HasChannel, HasEventAt, MayApply, MayApplyAll, IsCountableStamp};
+ghost use Rattle.ooo_channels.specs.Bank.{IsBankAfter, Covers, Applies, AreFirst, AreNew};
+
+use crate::channel::ChannelState;
+use crate::notices::make;
+use ooo_code::{Design, Effect};
+use ooo_events::{Call, Event};
+use ooo_time::{Stamp, Time};
+use ooo_value::{BoundChannel, BoundEvent, Value};
+use std::alloc::{AllocError, Global};
+use std::marker::Model;
+
+/// The channels and events of a design, by the effects that were applied to them.
+#[derive(Debug, Drop)]
+pub struct Bank {
+    channels: Vec<ChannelState>,
+    kinds: Vec<BoundEvent>,
+    events: Vec<Event>,
+    below: Stamp,
+}
+
+impl Model for Bank {
+    ghost use Rattle.ooo_channels.specs.Bank.{BankState};
+
+    ghost Value = { BankState };
+
+    ghost view = { λ b. record {
+      channels = b.channels.items;
+      kinds = b.kinds.items;
+      events = b.events.items;
+      below = b.below;
+    } };
+}
+
+impl Bank {
+    /// The bank of a design, to which nothing was applied, with room for no effect.
+    ///
+    /// # Errors
+    ///
+    /// Only where memory runs out.
+    pub fn make(alloc: Global, design: &Design) -> Result<Bank, AllocError>
+        ensures { let ops = no_operations design.now.channels design.now.events in
+            IfOk result (λ bank. IsBankAfter bank ops) }
+    {
+        let channels = first_channels(alloc, design.channels.as_slice())?;
+        let kinds = Vec::from_slice(alloc, design.events.as_slice())?;
+        let events = first_events(alloc, kinds.len())?;
+        Ok(Bank {
+            channels,
+            kinds,
+            events,
+            below: Stamp::default(),
+        })
+    }
+
+    /// What is seen of a signal in the cycle of a stamp: its value, and whether that changed in the delta
+    /// cycle immediately before, at the same time (IEEE 1666-2011, 6.4). It takes no memory.
+    pub fn signal(&self, id: u32, at: Stamp) -> (Value, bool)
+        requires { (ops : Operations) × IsBankAfter self.now ops × HasChannel ops id kind.Signal }
+        ensures { (ops : Operations) → IsBankAfter self.now ops → HasChannel ops id kind.Signal →
+            IsSeenAs (channel_in at ops id) at.time result }
+    {
+        self.channels[id as usize].seen(at)
+    }
+
+    /// How many values of a fifo may be read in the cycle of a stamp (6.23). It takes no memory.
+    pub fn available(&self, id: u32, at: Stamp) -> u32
+        requires { (ops : Operations) × IsBankAfter self.now ops × HasChannel ops id kind.Fifo }
+        ensures { (ops : Operations) → IsBankAfter self.now ops → HasChannel ops id kind.Fifo →
+            result ≡ length (readable (channel_in at ops id)) }
+    {
+        self.channels[id as usize].available(at)
+    }
+
+    /// How many values a fifo takes in the cycle of a stamp (6.23). It takes no memory.
+    pub fn free(&self, id: u32, at: Stamp) -> u32
+        requires { (ops : Operations) × IsBankAfter self.now ops × HasChannel ops id kind.Fifo }
+        ensures { (ops : Operations) → IsBankAfter self.now ops → HasChannel ops id kind.Fifo →
+            result ≡ writable (channel_in at ops id) }
+    {
+        self.channels[id as usize].free(at)
+    }
+
+    /// The first stamp after `since` at which an event fires, as far as the effects tell. No firing after
+    /// `since` is forgotten. It takes no memory, and a number of steps that is logarithmic in the firings
+    /// that are kept of the event.
+    pub fn first(&self, event: u32, since: Stamp) -> Option<Stamp>
+        requires { (ops : Operations) × IsBankAfter self.now ops × HasEventAt ops event }
+        ensures { (ops : Operations) → IsBankAfter self.now ops → ¬ IsBefore since ops.below →
+            IsFirstAfter (FiresAt ops event) since result }
+    {
+        let kind = self.kinds[event as usize];
+        match channel(kind) {
+            None => self.events[event as usize].first_after(since),
+            Some(c) => self.channels[c as usize].first(kind, since),
+        }
+    }
+
+    /// Applies effects at a stamp, in their order, for which there is room. It takes no memory.
+    pub fn apply(&mut self, effects: &[Effect], at: Stamp)
+        requires room { Covers self.old effects.now }
+        requires may { (ops : Operations) × IsBankAfter self.old ops × MayApplyAll ops at effects.now }
+        requires countable { IsCountableStamp at }
+        ensures after { (ops : Operations) → IsBankAfter self.old ops → MayApplyAll ops at effects.now →
+            IsBankAfter self.new (after_effects at ops effects.now) }
+
+        // The room for more effects is left.
+        ensures room { (more : List EffectSpec) → Covers self.old (effects.now ++ more) →
+            Covers self.new more }
+    {
+        for effect in effects {
+            self.apply_one(at, *effect);
+        }
+    }
+
+    /// Forgets the firings of all events before a stamp, so that they take no room later. It takes no
+    /// memory.
+    pub fn forget(&mut self, below: Stamp)
+        ensures after { (ops : Operations) → IsBankAfter self.old ops →
+            IsBankAfter self.new (after_forgetting below ops) }
+        ensures room { (more : List EffectSpec) → Covers self.old more → Covers self.new more }
+    {
+        if self.below.is_before(below) {
+            self.below = below;
+        }
+    }
+
+    /// Applies one effect.
+    fn apply_one(&mut self, at: Stamp, effect: Effect)
+        requires room { Covers self.old (effect ∷ []) }
+        requires may { (ops : Operations) × IsBankAfter self.old ops × MayApply ops at effect }
+        requires countable { IsCountableStamp at }
+        ensures { Applies self.old self.new at effect }
+    {
+        match effect {
+            Effect::Request(c, value) => self.request(c, value, at),
+            Effect::Put(c, value) => self.put(c, value, at),
+            Effect::Take(c) => self.take(c, at),
+            Effect::Notify(e, delay) => self.notify(e, delay, at),
+            Effect::Cancel(e) => self.cancel(e, at),
+            Effect::Stop => {}
+        }
+    }
+
+    /// Requests a value of a signal.
+    fn request(&mut self, id: u32, value: Value, at: Stamp)
+        requires room { Covers self.old (effect.Request id value ∷ []) }
+        requires may { (ops : Operations) × IsBankAfter self.old ops
+            × MayApply ops at (effect.Request id value) }
+        requires countable { IsCountableStamp at }
+        ensures { Applies self.old self.new at (effect.Request id value) }
+    {
+        let below = self.below;
+        self.channels[id as usize].request(at, value, below);
+    }
+
+    /// Puts a value into a fifo.
+    fn put(&mut self, id: u32, value: Value, at: Stamp)
+        requires room { Covers self.old (effect.Put id value ∷ []) }
+        requires may { (ops : Operations) × IsBankAfter self.old ops
+            × MayApply ops at (effect.Put id value) }
+        requires countable { IsCountableStamp at }
+        ensures { Applies self.old self.new at (effect.Put id value) }
+    {
+        let below = self.below;
+        self.channels[id as usize].put(at, value, below);
+    }
+
+    /// Takes a value of a fifo.
+    fn take(&mut self, id: u32, at: Stamp)
+        requires room { Covers self.old (effect.Take id ∷ []) }
+        requires may { (ops : Operations) × IsBankAfter self.old ops × MayApply ops at (effect.Take id) }
+        requires countable { IsCountableStamp at }
+        ensures { Applies self.old self.new at (effect.Take id) }
+    {
+        let below = self.below;
+        self.channels[id as usize].take(at, below);
+    }
+
+    /// Notifies an event of the model's own.
+    fn notify(&mut self, id: u32, delay: Time, at: Stamp)
+        requires room { Covers self.old (effect.Notify id delay ∷ []) }
+        requires may { (ops : Operations) × IsBankAfter self.old ops
+            × MayApply ops at (effect.Notify id delay) }
+        requires countable { IsCountableStamp at }
+        ensures { Applies self.old self.new at (effect.Notify id delay) }
+    {
+        let below = self.below;
+        make(
+            &mut self.events[id as usize],
+            Call::Notify(at, delay),
+            below,
+        );
+    }
+
+    /// Cancels what is pending of an event of the model's own.
+    fn cancel(&mut self, id: u32, at: Stamp)
+        requires room { Covers self.old (effect.Cancel id ∷ []) }
+        requires may { (ops : Operations) × IsBankAfter self.old ops × MayApply ops at (effect.Cancel id) }
+        requires countable { IsCountableStamp at }
+        ensures { Applies self.old self.new at (effect.Cancel id) }
+    {
+        let below = self.below;
+        make(&mut self.events[id as usize], Call::Cancel(at), below);
+    }
+}
+
+/// The channel of an event, if it is of one.
+fn channel(kind: BoundEvent) -> Option<u32>
+    ensures { MatchOption result (kind ≡ event.Own) (λ c. (c ≡ channel_of kind) × (kind ≢ event.Own)) }
+{
+    match kind {
+        BoundEvent::Own => None,
+        BoundEvent::Changed(c)
+        | BoundEvent::Rise(c)
+        | BoundEvent::Fall(c)
+        | BoundEvent::Written(c)
+        | BoundEvent::Taken(c) => Some(c),
+    }
+}
+
+/// The channels of a design as they start.
+fn first_channels(alloc: Global, channels: &[BoundChannel]) -> Result<Vec<ChannelState>, AllocError>
+    ensures { let count = length channels.now in
+        IfOk result (λ made. AreFirst channels.now count made.items) }
+{
+    let mut made = Vec::new(alloc);
+    for channel in channels {
+        made.push(ChannelState::new(alloc, *channel))?;
+    }
+    Ok(made)
+}
+
+/// So many events on which no call was made.
+fn first_events(alloc: Global, count: usize) -> Result<Vec<Event>, AllocError>
+    ensures { IfOk result (λ made. AreNew count made.items) }
+{
+    let mut made = Vec::new(alloc);
+    'events: for _event in 0..count {
+        made.push(Event::new(alloc))?;
+    }
+    Ok(made)
+}

@@ -1,0 +1,156 @@
+ghost use Rattle.std.specs.Prelude.{◌≡◌, ◌+◌, ◌++◌, ◌≤◌, ℕ, List, [], length, Some};
+ghost use Rattle.ooo_time.specs.Stamps.{IsBefore};
+ghost use Rattle.ooo_events.specs.declared.call.Call.{Call as CallSpec};
+ghost use Rattle.ooo_value.specs.declared.bound.BoundEvent.{BoundEvent as EventSpec};
+ghost use Rattle.ooo_value.specs.declared.bound.ChannelKind.TheVariants as kind;
+ghost use Rattle.ooo_code.specs.declared.activation.Effect.TheVariants as effect;
+ghost use Rattle.ooo_channels.specs.Conditions.{IsCountableStamp};
+ghost use Rattle.ooo_channels.specs.Cycles.{Cycle, cycle_at, cycle_after, first_cycle, readable, writable, IsSeenAs};
+ghost use Rattle.ooo_events.specs.Firings.{Fires, IsFirstAfter};
+ghost use Rattle.ooo_channels.specs.Calls.{channel_of};
+
+use crate::fifo::FifoState;
+use crate::signal::SignalState;
+use ooo_time::Stamp;
+use ooo_value::{BoundChannel, BoundEvent, ChannelKind, Value};
+use std::alloc::{AllocError, Global};
+
+/// What is kept of a channel.
+#[derive(Debug, Drop)]
+pub enum ChannelState {
+    Signal(SignalState),
+    Fifo(FifoState),
+}
+
+impl ChannelState {
+    ghost use Rattle.ooo_channels.specs.Kept.{HasKind, HasEvent, IsChannelAfter, IsChannelNext};
+    ghost use Rattle.ooo_channels.specs.Room.{HasRoom};
+
+    /// A channel as it starts. It takes no memory.
+    pub fn new(alloc: Global, channel: BoundChannel) -> ChannelState
+        ensures kind { HasKind channel.kind result }
+        ensures first { (c : ℕ) (below : Stamp) →
+            IsChannelAfter c below (first_cycle (Some channel)) (λ k. []) result }
+    {
+        match channel.kind {
+            ChannelKind::Signal => ChannelState::Signal(SignalState::new(alloc, channel.value)),
+            ChannelKind::Fifo => ChannelState::Fifo(FifoState::new(alloc, channel.size)),
+        }
+    }
+
+    /// Requests a value of a signal in the cycle of a stamp.
+    pub fn request(&mut self, at: Stamp, value: Value, below: Stamp)
+        requires kind { HasKind kind.Signal self.old }
+        requires room { HasRoom 1 self.old }
+        requires may { (c : ℕ) × (x : Cycle) × (calls : EventSpec → List CallSpec) ×
+            IsChannelAfter c below x calls self.old × (¬ IsBefore at x.stamp) }
+        requires countable { IsCountableStamp at }
+        ensures kind { HasKind kind.Signal self.new }
+        ensures after { (c : ℕ) (x : Cycle) (calls : EventSpec → List CallSpec) →
+            IsChannelAfter c below x calls self.old → ¬ IsBefore at x.stamp →
+            IsChannelNext c below x calls (record { at = at; effect = effect.Request c value }) self.new }
+        ensures room { (n : ℕ) → HasRoom (n + 1) self.old → HasRoom n self.new }
+    {
+        match self {
+            ChannelState::Signal(signal) => signal.request(at, value, below),
+            ChannelState::Fifo(_) => {}
+        }
+    }
+
+    /// Puts a value into a fifo in the cycle of a stamp.
+    pub fn put(&mut self, at: Stamp, value: Value, below: Stamp)
+        requires kind { HasKind kind.Fifo self.old }
+        requires room { HasRoom 1 self.old }
+        requires may { (c : ℕ) × (x : Cycle) × (calls : EventSpec → List CallSpec) ×
+            IsChannelAfter c below x calls self.old × (¬ IsBefore at x.stamp)
+            × (1 ≤ writable (cycle_at at x).channel) }
+        requires countable { IsCountableStamp at }
+        ensures kind { HasKind kind.Fifo self.new }
+        ensures after { (c : ℕ) (x : Cycle) (calls : EventSpec → List CallSpec) →
+            IsChannelAfter c below x calls self.old → ¬ IsBefore at x.stamp →
+            1 ≤ writable (cycle_at at x).channel →
+            IsChannelNext c below x calls (record { at = at; effect = effect.Put c value }) self.new }
+        ensures room { (n : ℕ) → HasRoom (n + 1) self.old → HasRoom n self.new }
+    {
+        match self {
+            ChannelState::Signal(_) => {}
+            ChannelState::Fifo(fifo) => fifo.put(at, value, below),
+        }
+    }
+
+    /// Takes a value of a fifo in the cycle of a stamp.
+    pub fn take(&mut self, at: Stamp, below: Stamp)
+        requires kind { HasKind kind.Fifo self.old }
+        requires room { HasRoom 1 self.old }
+        requires may { (c : ℕ) × (x : Cycle) × (calls : EventSpec → List CallSpec) ×
+            IsChannelAfter c below x calls self.old × (¬ IsBefore at x.stamp)
+            × (1 ≤ length (readable (cycle_at at x).channel)) }
+        requires countable { IsCountableStamp at }
+        ensures kind { HasKind kind.Fifo self.new }
+        ensures after { (c : ℕ) (x : Cycle) (calls : EventSpec → List CallSpec) →
+            IsChannelAfter c below x calls self.old → ¬ IsBefore at x.stamp →
+            1 ≤ length (readable (cycle_at at x).channel) →
+            IsChannelNext c below x calls (record { at = at; effect = effect.Take c }) self.new }
+        ensures room { (n : ℕ) → HasRoom (n + 1) self.old → HasRoom n self.new }
+    {
+        match self {
+            ChannelState::Signal(_) => {}
+            ChannelState::Fifo(fifo) => fifo.take(at, below),
+        }
+    }
+
+    /// What is seen of a signal in the cycle of a stamp.
+    pub fn seen(&self, at: Stamp) -> (Value, bool)
+        requires { HasKind kind.Signal self.now }
+        ensures { (c : ℕ) (below : Stamp) (x : Cycle) (calls : EventSpec → List CallSpec) →
+            IsChannelAfter c below x calls self.now →
+            IsSeenAs (cycle_at at x).channel at.time result }
+    {
+        match self {
+            ChannelState::Signal(signal) => signal.seen(at),
+            ChannelState::Fifo(_) => (Value::Bool(false), false),
+        }
+    }
+
+    /// How many values of a fifo may be read in the cycle of a stamp.
+    pub fn available(&self, at: Stamp) -> u32
+        requires kind { HasKind kind.Fifo self.now }
+        requires fifo { (c : ℕ) × (below : Stamp) × (x : Cycle) × (calls : EventSpec → List CallSpec)
+            × IsChannelAfter c below x calls self.now }
+        ensures { (c : ℕ) (below : Stamp) (x : Cycle) (calls : EventSpec → List CallSpec) →
+            IsChannelAfter c below x calls self.now →
+            result ≡ length (readable (cycle_at at x).channel) }
+    {
+        match self {
+            ChannelState::Signal(_) => 0,
+            ChannelState::Fifo(fifo) => fifo.available(at),
+        }
+    }
+
+    /// How many values a fifo takes in the cycle of a stamp.
+    pub fn free(&self, at: Stamp) -> u32
+        requires kind { HasKind kind.Fifo self.now }
+        requires fifo { (c : ℕ) × (below : Stamp) × (x : Cycle) × (calls : EventSpec → List CallSpec)
+            × IsChannelAfter c below x calls self.now }
+        ensures { (c : ℕ) (below : Stamp) (x : Cycle) (calls : EventSpec → List CallSpec) →
+            IsChannelAfter c below x calls self.now → result ≡ writable (cycle_at at x).channel }
+    {
+        match self {
+            ChannelState::Signal(_) => 0,
+            ChannelState::Fifo(fifo) => fifo.free(at),
+        }
+    }
+
+    /// The first firing after a stamp of an event of the channel.
+    pub fn first(&self, kind: BoundEvent, since: Stamp) -> Option<Stamp>
+        requires { HasEvent kind self.now }
+        ensures { (below : Stamp) (x : Cycle) (calls : EventSpec → List CallSpec) →
+            IsChannelAfter (channel_of kind) below x calls self.now → ¬ IsBefore since below →
+            IsFirstAfter (Fires (calls kind)) since result }
+    {
+        match self {
+            ChannelState::Signal(signal) => signal.first(kind, since),
+            ChannelState::Fifo(fifo) => fifo.first(kind, since),
+        }
+    }
+}

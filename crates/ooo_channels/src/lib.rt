@@ -1,0 +1,12 @@
+//! The bank: signals, fifos and events by stamped effects, with the history of each channel.
+//!
+//! A bank has no present delta cycle. Effects come with stamps, and it is asked at stamps.
+#![tactic(auto)]
+
+mod bank;
+mod channel;
+mod fifo;
+mod notices;
+mod signal;
+
+pub use bank::Bank;
