@@ -17,7 +17,7 @@ use Rattle.ooo_channels.specs.Bank.{BankState, IsBankAfter, Covers, Applies}
 use Rattle.ooo_channels.proofs.Banked.{untouched}
 
 -- room for more is room for less
-HasRoom-less : (n m : ℕ) (s : ChannelState) → m ≤ n → HasRoom n s → HasRoom m s
+pub HasRoom-less : (n m : ℕ) (s : ChannelState) → m ≤ n → HasRoom n s → HasRoom m s
 HasRoom-less n m (state.Signal s) le room = record {
   history = omega (arith, room.history);
   changes = omega (arith, room.changes);

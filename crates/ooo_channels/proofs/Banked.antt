@@ -1,5 +1,5 @@
 -- A bank after one more effect.
-use Rattle.std.proofs.Common.{◌≡◌, ◌≢◌, ℕ, suc, ◌+◌, ◌<◌, ◌≤◌, ◌++◌, ◌==◌, Bool, true, false, cond, arith, List, [], ◌∷◌, Option, Some, None, refl, ap, sym, subst, ◌∙◌, append-nil, eq-eqb, length, get_or, set, ⊎_elim, add-one}
+use Rattle.std.proofs.Common.{◌≡◌, ◌≢◌, ℕ, zero, suc, ◌+◌, ◌<◌, ◌≤◌, ◌++◌, ◌==◌, Bool, true, false, cond, arith, List, [], ◌∷◌, Option, Some, None, refl, ap, sym, subst, ◌∙◌, append-nil, eq-eqb, length, get_or, set, ⊎_elim, add-one}
 use Rattle.std.specs.Prelude.{slice_get, filter}
 use Rattle.std.proofs.lemmas.Bool.{cases_eq, ne_eqb}
 use Rattle.std.proofs.lemmas.List.{get_or-set_same, get_or-set_other, length-set}
@@ -25,12 +25,18 @@ use Rattle.ooo_channels.specs.Bank.{BankState, IsBankAfter, Covers, Applies}
 use Rattle.ooo_channels.proofs.Steps.{operation, cycle_of-other, cycle_of-on, channel_calls-other, channel_calls-after, own_calls-after, IsChannelAfter-calls}
 
 -- what holds of the place that is set, and of each other, holds of each
-set_cases : {A : Type 0} (P : ℕ → A → Type 0) (xs : List A) (i : ℕ) (x d : A) → i < length xs → P i x → ((j : ℕ) → j ≢ i → P j (get_or xs j d)) → (j : ℕ) → P j (get_or (set xs i x) j d)
+pub set_cases : {A : Type 0} (P : ℕ → A → Type 0) (xs : List A) (i : ℕ) (x d : A) → i < length xs → P i x → ((j : ℕ) → j ≢ i → P j (get_or xs j d)) → (j : ℕ) → P j (get_or (set xs i x) j d)
 set_cases P xs i x d lt h k j =
     ⊎_elim
     (λ e. subst (λ n. P n (get_or (set xs i x) n d)) (sym e) (subst (P i) (sym (get_or-set_same xs i x d lt)) h))
     (λ ne. subst (P j) (sym (get_or-set_other xs i j x d ne)) (k j ne))
     (cases_eq j i)
+
+-- an element that is there is the same for any default
+pub get_or_same : {A : Type 0} (xs : List A) (i : ℕ) (d e : A) → i < length xs → get_or xs i d ≡ get_or xs i e
+get_or_same [] i d e lt = absurd (omega arith)
+get_or_same (x ∷ xs) zero d e lt = refl
+get_or_same (x ∷ xs) (suc i) d e lt = get_or_same xs i d e (omega arith)
 
 module _ (ops : Operations) (at : Stamp) (f : Effect) where
   -- a channel that the effect isn't on

@@ -34,11 +34,13 @@ module _ (below more : Stamp) (wider : (s : Stamp) → ¬ IsBefore s more → ¬
     changes = notice_wider x.stamp s.changes _ h.changes;
     rises = notice_wider x.stamp s.rises _ h.rises;
     falls = notice_wider x.stamp s.falls _ h.falls;
+    room = h.room;
   }
   channel_wider c x calls (state.Fifo s) h = record {
     cycle = h.cycle;
     puts = notice_wider x.stamp s.puts _ h.puts;
     takes = notice_wider x.stamp s.takes _ h.takes;
+    room = h.room;
   }
 
 -- a bank that forgets more

@@ -11,3 +11,5 @@ pub mod Making
 pub mod Forgetting
 pub mod Applying
 pub mod Asking
+pub mod Values
+pub mod Reserving

@@ -17,6 +17,7 @@ use Rattle.ooo_channels.specs.declared.fifo.FifoState.{FifoState}
 use Rattle.ooo_channels.specs.Operations.{Operation}
 use Rattle.ooo_channels.specs.Cycles.{Cycle, cycle_after}
 use Rattle.ooo_channels.specs.Calls.{notifies, bears_on, renewal, renewals}
+use Rattle.ooo_channels.specs.Room.{HasSignalRoom, HasFifoRoom}
 use Rattle.ooo_channels.specs.Kept.{IsEventKept, IsNotice, IsSignalIn, IsFifoIn, IsSignalAfter, IsFifoAfter, AreSignalEventsBy, AreFifoEventsBy, signal_of}
 
 -- an event on which the operation bears
@@ -47,9 +48,11 @@ module _ (s t : SignalState) (c : ℕ) (below : Stamp) (x : Cycle) (calls : Boun
       ((cs : List Call) → IsEventKept below s.changes cs → IsEventKept below t.changes (cs ++ renewal at (notifies (event.Changed 0) (IsSignal (signal_of t))) ∷ [])) →
       ((cs : List Call) → IsEventKept below s.rises cs → IsEventKept below t.rises (cs ++ renewal at (notifies (event.Rise 0) (IsSignal (signal_of t))) ∷ [])) →
       ((cs : List Call) → IsEventKept below s.falls cs → IsEventKept below t.falls (cs ++ renewal at (notifies (event.Fall 0) (IsSignal (signal_of t))) ∷ [])) →
+      HasSignalRoom 0 t →
       (let o : Operation = record { at = at; effect = effect.Request c v } in
       IsSignalAfter c below (cycle_after x o) (λ k. calls k ++ renewals k (cycle_after x o).channel o) t)
-  signal_next h is by changes rises falls = record {
+  signal_next h is by changes rises falls room = record {
+    room = room;
     cycle = is;
     changes = notice_next (event.Changed c) o (cycle_after x o) s.changes t.changes below t.stamp (calls (event.Changed c)) _ same (ap (notifies (event.Changed c)) (sym is.channel)) is.stamp h.changes.kept changes by.changes;
     rises = notice_next (event.Rise c) o (cycle_after x o) s.rises t.rises below t.stamp (calls (event.Rise c)) _ same (ap (notifies (event.Rise c)) (sym is.channel)) is.stamp h.rises.kept rises by.rises;
@@ -65,10 +68,11 @@ module _ (s t : FifoState) (c : ℕ) (below : Stamp) (x : Cycle) (calls : BoundE
   -- a fifo after a put
   pub put_next :
       (v : Value) → IsFifoAfter c below x calls s → IsFifoIn t (cycle_after x (record { at = at; effect = effect.Put c v })) → AreFifoEventsBy t → 1 ≤ t.written →
-      ((cs : List Call) → IsEventKept below s.puts cs → IsEventKept below t.puts (cs ++ call.Notify at (record { 0 = 0 }) ∷ [])) → t.takes ≡ s.takes →
+      ((cs : List Call) → IsEventKept below s.puts cs → IsEventKept below t.puts (cs ++ call.Notify at (record { 0 = 0 }) ∷ [])) → t.takes ≡ s.takes → HasFifoRoom 0 t →
       (let o : Operation = record { at = at; effect = effect.Put c v } in
       IsFifoAfter c below (cycle_after x o) (λ k. calls k ++ renewals k (cycle_after x o).channel o) t)
-  put_next v h is by some puts takes = record {
+  put_next v h is by some puts takes room = record {
+    room = room;
     cycle = is;
     puts = notice_next (event.Written c) o (cycle_after x o) s.puts t.puts below t.stamp (calls (event.Written c)) true (eq-eqb c c refl) notified is.stamp h.puts.kept puts by.puts;
     takes = notice_other (event.Taken c) o (cycle_after x o) s.takes t.takes below t.stamp (calls (event.Taken c)) refl is.stamp h.takes.kept takes by.takes;
@@ -82,10 +86,11 @@ module _ (s t : FifoState) (c : ℕ) (below : Stamp) (x : Cycle) (calls : BoundE
   -- a fifo after a take
   pub take_next :
       IsFifoAfter c below x calls s → IsFifoIn t (cycle_after x (record { at = at; effect = effect.Take c })) → AreFifoEventsBy t → 1 ≤ t.read →
-      ((cs : List Call) → IsEventKept below s.takes cs → IsEventKept below t.takes (cs ++ call.Notify at (record { 0 = 0 }) ∷ [])) → t.puts ≡ s.puts →
+      ((cs : List Call) → IsEventKept below s.takes cs → IsEventKept below t.takes (cs ++ call.Notify at (record { 0 = 0 }) ∷ [])) → t.puts ≡ s.puts → HasFifoRoom 0 t →
       (let o : Operation = record { at = at; effect = effect.Take c } in
       IsFifoAfter c below (cycle_after x o) (λ k. calls k ++ renewals k (cycle_after x o).channel o) t)
-  take_next h is by some takes puts = record {
+  take_next h is by some takes puts room = record {
+    room = room;
     cycle = is;
     puts = notice_other (event.Written c) o (cycle_after x o) s.puts t.puts below t.stamp (calls (event.Written c)) refl is.stamp h.puts.kept puts by.puts;
     takes = notice_next (event.Taken c) o (cycle_after x o) s.takes t.takes below t.stamp (calls (event.Taken c)) true (eq-eqb c c refl) notified is.stamp h.takes.kept takes by.takes;

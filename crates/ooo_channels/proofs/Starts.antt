@@ -12,6 +12,7 @@ use Rattle.ooo_meaning.specs.World.{zero_stamp}
 use Rattle.ooo_channels.specs.declared.signal.SignalState.{SignalState}
 use Rattle.ooo_channels.specs.declared.fifo.FifoState.{FifoState}
 use Rattle.ooo_channels.specs.Cycles.{Cycle, first_cycle}
+use Rattle.ooo_channels.specs.Room.{HasSignalRoom, HasFifoRoom}
 use Rattle.ooo_channels.specs.Kept.{IsEventKept, IsSignalAfter, IsFifoAfter, AreSignalEventsBy, AreFifoEventsBy, signal_of}
 
 first_signal : (b : BoundChannel) → b.kind ≡ kind.Signal → first_channel b None None ≡ IsSignal (record { current = value_of b.value (pos 0); requested = None; changed = None })
@@ -23,9 +24,10 @@ first_fifo b is = rw is refl
 pub signal_starts :
     (c : ℕ) (below : Stamp) (b : BoundChannel) (s : SignalState) → b.kind ≡ kind.Signal →
     s.current ≡ value_of b.value (pos 0) → s.requested ≡ None → s.changed ≡ None → s.stamp ≡ zero_stamp → s.history.items ≡ [] →
-    IsEventKept below s.changes [] → IsEventKept below s.rises [] → IsEventKept below s.falls [] → AreSignalEventsBy s →
+    IsEventKept below s.changes [] → IsEventKept below s.rises [] → IsEventKept below s.falls [] → AreSignalEventsBy s → HasSignalRoom 0 s →
     IsSignalAfter c below (first_cycle (Some b)) (λ k. []) s
-signal_starts c below b s is value fresh unchanged stamp history changes rises falls by = record {
+signal_starts c below b s is value fresh unchanged stamp history changes rises falls by room = record {
+  room = room;
   cycle = record {
     stamp = stamp;
     channel = ap IsSignal same ∙ sym (first_signal b is);
@@ -41,9 +43,10 @@ signal_starts c below b s is value fresh unchanged stamp history changes rises f
 pub fifo_starts :
     (c : ℕ) (below : Stamp) (b : BoundChannel) (s : FifoState) → b.kind ≡ kind.Fifo →
     s.size ≡ b.size → s.values.items ≡ [] → (s.read ≡ 0) × (s.written ≡ 0) → s.stamp ≡ zero_stamp → s.history.items ≡ [] →
-    IsEventKept below s.puts [] → IsEventKept below s.takes [] → AreFifoEventsBy s →
+    IsEventKept below s.puts [] → IsEventKept below s.takes [] → AreFifoEventsBy s → HasFifoRoom 0 s →
     IsFifoAfter c below (first_cycle (Some b)) (λ k. []) s
-fifo_starts c below b s is size values counts stamp history puts takes by = record {
+fifo_starts c below b s is size values counts stamp history puts takes by room = record {
+  room = room;
   cycle = record {
     fifo = record { size = b.size; held = []; read = 0; written = []; reader = None; writer = None };
     channel = sym (first_fifo b is);

@@ -108,9 +108,11 @@ IsChannelAfter-calls c below x calls more (state.Signal s) same h = record {
   changes = subst (IsNotice below x.stamp s.changes) (same (event.Changed c) refl) h.changes;
   rises = subst (IsNotice below x.stamp s.rises) (same (event.Rise c) refl) h.rises;
   falls = subst (IsNotice below x.stamp s.falls) (same (event.Fall c) refl) h.falls;
+  room = h.room;
 }
 IsChannelAfter-calls c below x calls more (state.Fifo s) same h = record {
   cycle = h.cycle;
   puts = subst (IsNotice below x.stamp s.puts) (same (event.Written c) refl) h.puts;
   takes = subst (IsNotice below x.stamp s.takes) (same (event.Taken c) refl) h.takes;
+  room = h.room;
 }

@@ -1,5 +1,5 @@
 -- A bank, by the operations that were applied to it.
-use Rattle.std.specs.Prelude.{◌≡◌, ℕ, ◌<◌, ◌≤◌, List, [], ◌∷◌, length, Option, Some, slice_get, slice_index_or}
+use Rattle.std.specs.Prelude.{◌≡◌, true, ℕ, ◌<◌, ◌≤◌, List, [], ◌∷◌, length, Option, Some, slice_get, slice_index_or}
 use Rattle.ooo_time.specs.declared.stamp.Stamp.{Stamp}
 use Rattle.ooo_value.specs.declared.bound.BoundChannel.{BoundChannel}
 use Rattle.ooo_value.specs.declared.bound.BoundEvent.{BoundEvent}
@@ -55,3 +55,24 @@ pub record AreNew (count : ℕ) (made : List EventState) : Type 0 where
 pub record Applies (old new : BankState) (at : Stamp) (f : Effect) : Type 0 where
   pub after : (ops : Operations) → IsBankAfter old ops → MayApply ops at f → IsBankAfter new (after_effect at ops f)
   pub room : (more : List Effect) → Covers old (f ∷ more) → Covers new more
+
+-- a bank with more room, to which the same was applied
+pub record HasMoreRoom (old new : BankState) : Type 0 where
+  pub after : (ops : Operations) → IsBankAfter old ops → IsBankAfter new ops
+  pub channel_count : length new.channels ≡ length old.channels
+  pub event_count : length new.events ≡ length old.events
+  pub channels : (c : ℕ) (d : ChannelState) (n : ℕ) → HasRoom n (slice_index_or old.channels c d) → HasRoom n (slice_index_or new.channels c d)
+  pub events : (e : ℕ) (d : EventState) → (slice_index_or old.events e d).spare ≤ (slice_index_or new.events e d).spare
+
+-- channel c of a bank has room for n effects
+abbrev pub ChannelHasRoom : BankState → ℕ → ℕ → Type 0
+ChannelHasRoom bank n c = (d : ChannelState) → c < length bank.channels → HasRoom n (slice_index_or bank.channels c d)
+
+-- event e of a bank has room for n calls
+abbrev pub EventHasRoom : BankState → ℕ → ℕ → Type 0
+EventHasRoom bank n e = (d : EventState) → e < length bank.events → n ≤ (slice_index_or bank.events e d).spare
+
+-- what an effect is on has room for n effects
+pub record HasRoomFor (bank : BankState) (f : Effect) (n : ℕ) : Type 0 where
+  pub channels : (c : ℕ) → is_on c f ≡ true → ChannelHasRoom bank n c
+  pub events : (e : ℕ) → is_call_on e f ≡ true → EventHasRoom bank n e

@@ -19,6 +19,7 @@ use Rattle.ooo_channels.specs.Operations.{Operation}
 use Rattle.ooo_channels.specs.Cycles.{Cycle, cycle_after}
 use Rattle.ooo_channels.specs.Calls.{renewals}
 use Rattle.ooo_channels.specs.Entries.{took_entry}
+use Rattle.ooo_channels.specs.Room.{HasSignalRoom, HasFifoRoom}
 
 -- an event on which these calls were made, and which forgot no firing from a stamp on
 pub record IsEventKept (below : Stamp) (event : EventState) (calls : List Call) : Type 0 where
@@ -59,12 +60,14 @@ pub record IsSignalAfter (c : ℕ) (below : Stamp) (x : Cycle) (calls : BoundEve
   pub changes : IsNotice below x.stamp s.changes (calls (event.Changed c))
   pub rises : IsNotice below x.stamp s.rises (calls (event.Rise c))
   pub falls : IsNotice below x.stamp s.falls (calls (event.Fall c))
+  pub room : HasSignalRoom 0 s
 
 -- a fifo in its cycle, with its events
 pub record IsFifoAfter (c : ℕ) (below : Stamp) (x : Cycle) (calls : BoundEvent → List Call) (s : FifoState) : Type 0 where
   pub cycle : IsFifoIn s x
   pub puts : IsNotice below x.stamp s.puts (calls (event.Written c))
   pub takes : IsNotice below x.stamp s.takes (calls (event.Taken c))
+  pub room : HasFifoRoom 0 s
 
 -- channel c in its cycle, with its events
 abbrev pub IsChannelAfter : (c : ℕ) → (below : Stamp) → Cycle → (BoundEvent → List Call) → ChannelState → Type 0

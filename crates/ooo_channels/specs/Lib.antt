@@ -3,6 +3,6 @@ pub mod Entries
 pub mod Cycles
 pub mod Calls
 pub mod Conditions
-pub mod Kept
 pub mod Room
+pub mod Kept
 pub mod Bank

@@ -1,20 +1,21 @@
-ghost use Rattle.std.specs.Prelude.{◌≡◌, ◌≢◌, ◌++◌, List, [], ◌∷◌, length, IfOk, MatchOption};
+ghost use Rattle.std.specs.Prelude.{◌≡◌, ◌≢◌, ◌<◌, ◌≤◌, ◌++◌, List, [], ◌∷◌, length, Some, IfOk, OnOk, MatchOption, All, slice_get};
 ghost use Rattle.ooo_time.specs.Stamps.{IsBefore};
 ghost use Rattle.ooo_events.specs.Firings.{IsFirstAfter};
 ghost use Rattle.ooo_code.specs.declared.activation.Effect.{Effect as EffectSpec};
 ghost use Rattle.ooo_value.specs.declared.bound.ChannelKind.TheVariants as kind;
 ghost use Rattle.ooo_channels.specs.Operations.{Operations, no_operations, after_effects, after_forgetting};
-ghost use Rattle.ooo_channels.specs.Cycles.{channel_in, readable, writable, IsSeenAs};
+ghost use Rattle.ooo_channels.specs.Cycles.{channel_in, history_in, cycle_of, readable, writable, values_left, IsSeenAs};
 ghost use Rattle.ooo_channels.specs.Calls.{FiresAt, channel_of};
 ghost use Rattle.ooo_code.specs.declared.activation.Effect.TheVariants as effect;
 ghost use Rattle.ooo_value.specs.declared.bound.BoundEvent.TheVariants as event;
-ghost use Rattle.ooo_channels.specs.Conditions.{HasChannel, HasEventAt, MayApply, MayApplyAll, IsCountableStamp};
-ghost use Rattle.ooo_channels.specs.Bank.{IsBankAfter, Covers, Applies, AreFirst, AreNew};
+ghost use Rattle.ooo_channels.specs.Conditions.{HasChannel, HasEventAt, Names, MayApply, MayApplyAll, IsCountableStamp};
+ghost use Rattle.ooo_channels.specs.Bank.{IsBankAfter, Covers, Applies, HasMoreRoom, HasRoomFor, AreFirst, AreNew};
 
 use crate::channel::ChannelState;
 use crate::notices::make;
 use ooo_code::{Design, Effect};
 use ooo_events::{Call, Event};
+use ooo_history::Entry;
 use ooo_time::{Stamp, Time};
 use ooo_value::{BoundChannel, BoundEvent, Value};
 use std::alloc::{AllocError, Global};
@@ -91,6 +92,53 @@ impl Bank {
         self.channels[id as usize].free(at)
     }
 
+    /// A value of a fifo that is not read yet, by its number: first those that may be read, then those that
+    /// are written in the cycle of the last operation (6.23). It takes no memory.
+    pub fn value(&self, id: u32, n: u32) -> Value
+        requires { (ops : Operations) × IsBankAfter self.now ops × HasChannel ops id kind.Fifo
+            × (n < length (values_left (cycle_of ops id).channel)) }
+        ensures left { (ops : Operations) → IsBankAfter self.now ops → HasChannel ops id kind.Fifo →
+            slice_get (values_left (cycle_of ops id).channel) n ≡ Some result }
+        ensures readable { (ops : Operations) (at : Stamp) → IsBankAfter self.now ops →
+            HasChannel ops id kind.Fifo → n < length (readable (channel_in at ops id)) →
+            slice_get (readable (channel_in at ops id)) n ≡ Some result }
+    {
+        self.channels[id as usize].value(n as usize)
+    }
+
+    /// The history of a channel up to the cycle of a stamp: what the updates before it added, in each cycle
+    /// what was read before what was written.
+    ///
+    /// # Errors
+    ///
+    /// Only where memory runs out.
+    pub fn history(&self, alloc: Global, id: u32, at: Stamp) -> Result<Vec<Entry>, AllocError>
+        requires { (ops : Operations) × IsBankAfter self.now ops × (id < length ops.channels) }
+        ensures { IfOk result (λ h. (ops : Operations) → IsBankAfter self.now ops →
+            h.items ≡ history_in at ops id) }
+    {
+        let mut history = Vec::new(alloc);
+        self.channels[id as usize].append_history(at, &mut history)?;
+        Ok(history)
+    }
+
+    /// Makes room for effects on channels and events that are there.
+    ///
+    /// # Errors
+    ///
+    /// Only where memory runs out; the bank is then as it was, but for its room.
+    pub fn reserve(&mut self, effects: &[Effect]) -> Result<(), AllocError>
+        requires { (ops : Operations) × IsBankAfter self.old ops × All (Names ops) effects.now }
+        ensures room { OnOk result (Covers self.new effects.now) }
+        ensures after { (ops : Operations) → IsBankAfter self.old ops → IsBankAfter self.new ops }
+        ensures kept { (more : List EffectSpec) → Covers self.old more → Covers self.new more }
+    {
+        for effect in effects {
+            self.reserve_for(*effect, effects.len())?;
+        }
+        Ok(())
+    }
+
     /// The first stamp after `since` at which an event fires, as far as the effects tell. No firing after
     /// `since` is forgotten. It takes no memory, and a number of steps that is logarithmic in the firings
     /// that are kept of the event.
@@ -132,6 +180,21 @@ impl Bank {
     {
         if self.below.is_before(below) {
             self.below = below;
+        }
+    }
+
+    /// Makes room for `n` effects on what an effect is on.
+    fn reserve_for(&mut self, effect: Effect, n: usize) -> Result<(), AllocError>
+        requires { (ops : Operations) × IsBankAfter self.old ops × Names ops effect }
+        ensures room { OnOk result (HasRoomFor self.new effect n) }
+        ensures more { HasMoreRoom self.old self.new }
+    {
+        match effect {
+            Effect::Request(c, _) | Effect::Put(c, _) | Effect::Take(c) => {
+                self.channels[c as usize].reserve(n)
+            }
+            Effect::Notify(e, _) | Effect::Cancel(e) => self.events[e as usize].reserve(n),
+            Effect::Stop => Ok(()),
         }
     }
 

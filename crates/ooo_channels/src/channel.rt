@@ -1,16 +1,18 @@
-ghost use Rattle.std.specs.Prelude.{◌≡◌, ◌+◌, ◌++◌, ◌≤◌, ℕ, List, [], length, Some};
+ghost use Rattle.std.specs.Prelude.{◌≡◌, ◌+◌, ◌++◌, ◌≤◌, ◌<◌, ℕ, List, [], length, Some, OnOk, slice_get};
+ghost use Rattle.ooo_value.specs.declared.bound.ChannelKind.{ChannelKind as KindSpec};
 ghost use Rattle.ooo_time.specs.Stamps.{IsBefore};
 ghost use Rattle.ooo_events.specs.declared.call.Call.{Call as CallSpec};
 ghost use Rattle.ooo_value.specs.declared.bound.BoundEvent.{BoundEvent as EventSpec};
 ghost use Rattle.ooo_value.specs.declared.bound.ChannelKind.TheVariants as kind;
 ghost use Rattle.ooo_code.specs.declared.activation.Effect.TheVariants as effect;
 ghost use Rattle.ooo_channels.specs.Conditions.{IsCountableStamp};
-ghost use Rattle.ooo_channels.specs.Cycles.{Cycle, cycle_at, cycle_after, first_cycle, readable, writable, IsSeenAs};
+ghost use Rattle.ooo_channels.specs.Cycles.{Cycle, cycle_at, cycle_after, first_cycle, readable, writable, values_left, IsSeenAs};
 ghost use Rattle.ooo_events.specs.Firings.{Fires, IsFirstAfter};
 ghost use Rattle.ooo_channels.specs.Calls.{channel_of};
 
 use crate::fifo::FifoState;
 use crate::signal::SignalState;
+use ooo_history::Entry;
 use ooo_time::Stamp;
 use ooo_value::{BoundChannel, BoundEvent, ChannelKind, Value};
 use std::alloc::{AllocError, Global};
@@ -35,6 +37,56 @@ impl ChannelState {
         match channel.kind {
             ChannelKind::Signal => ChannelState::Signal(SignalState::new(alloc, channel.value)),
             ChannelKind::Fifo => ChannelState::Fifo(FifoState::new(alloc, channel.size)),
+        }
+    }
+
+    /// Makes room for `n` more effects.
+    ///
+    /// # Errors
+    ///
+    /// Only where memory runs out.
+    pub fn reserve(&mut self, n: usize) -> Result<(), AllocError>
+        ensures room { OnOk result (HasRoom n self.new) }
+        ensures kept { (m : ℕ) → HasRoom m self.old → HasRoom m self.new }
+        ensures kind { (k : KindSpec) → HasKind k self.old → HasKind k self.new }
+        ensures after { (c : ℕ) (below : Stamp) (x : Cycle) (calls : EventSpec → List CallSpec) →
+            IsChannelAfter c below x calls self.old → IsChannelAfter c below x calls self.new }
+    {
+        match self {
+            ChannelState::Signal(signal) => signal.reserve(n),
+            ChannelState::Fifo(fifo) => fifo.reserve(n),
+        }
+    }
+
+    /// Appends the history up to the cycle of a stamp.
+    ///
+    /// # Errors
+    ///
+    /// Only where memory runs out.
+    pub fn append_history(&self, at: Stamp, out: &mut Vec<Entry>) -> Result<(), AllocError>
+        requires { (c : ℕ) × (below : Stamp) × (x : Cycle) × (calls : EventSpec → List CallSpec)
+            × IsChannelAfter c below x calls self.now }
+        ensures { OnOk result ((c : ℕ) (below : Stamp) (x : Cycle) (calls : EventSpec → List CallSpec) →
+            IsChannelAfter c below x calls self.now →
+            out.new.items ≡ out.old.items ++ (cycle_at at x).history) }
+    {
+        match self {
+            ChannelState::Signal(signal) => signal.append_history(at, out),
+            ChannelState::Fifo(fifo) => fifo.append_history(at, out),
+        }
+    }
+
+    /// A value of a fifo that is not read yet, by its number.
+    pub fn value(&self, n: usize) -> Value
+        requires kind { HasKind kind.Fifo self.now }
+        requires within { (c : ℕ) × (below : Stamp) × (x : Cycle) × (calls : EventSpec → List CallSpec)
+            × IsChannelAfter c below x calls self.now × (n < length (values_left x.channel)) }
+        ensures { (c : ℕ) (below : Stamp) (x : Cycle) (calls : EventSpec → List CallSpec) →
+            IsChannelAfter c below x calls self.now → slice_get (values_left x.channel) n ≡ Some result }
+    {
+        match self {
+            ChannelState::Signal(_) => Value::Bool(false),
+            ChannelState::Fifo(fifo) => fifo.value(n),
         }
     }
 

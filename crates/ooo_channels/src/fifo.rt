@@ -1,4 +1,4 @@
-ghost use Rattle.std.specs.Prelude.{◌≡◌, ◌+◌, ◌-◌, ◌≤◌, ◌<◌, ◌^◌, ℕ, List, [], ◌∷◌, ◌++◌, length, drop, map, Some, None, vec_len, vec_capacity, slice_get};
+ghost use Rattle.std.specs.Prelude.{◌≡◌, ◌+◌, ◌-◌, ◌≤◌, ◌<◌, ◌^◌, ℕ, List, [], ◌∷◌, ◌++◌, length, drop, map, Some, None, OnOk, vec_len, vec_capacity, slice_get};
 ghost use Rattle.std.specs.VecDeque.{deque_len, deque_capacity};
 ghost use Rattle.ooo_time.specs.Stamps.{IsBefore};
 ghost use Rattle.ooo_events.specs.declared.call.Call.{Call as CallSpec};
@@ -16,7 +16,7 @@ use ooo_events::{Call, Event};
 use ooo_history::{Entry, What};
 use ooo_time::{Stamp, Time};
 use ooo_value::{BoundEvent, Value};
-use std::alloc::Global;
+use std::alloc::{AllocError, Global};
 use std::collections::VecDeque;
 
 /// What is kept of a fifo (IEEE 1666-2011, 6.23): the fifo in the cycle of the last operation on it, and its history.
@@ -38,8 +38,6 @@ pub struct FifoState {
     pub puts: Event,
     /// Data read.
     pub takes: Event,
-    /// How many effects a reservation has counted so far.
-    pub wanted: usize,
 }
 
 impl FifoState {
@@ -57,6 +55,7 @@ impl FifoState {
         ensures puts { (below : Stamp) → IsEventKept below result.puts [] }
         ensures takes { (below : Stamp) → IsEventKept below result.takes [] }
         ensures by { AreFifoEventsBy result }
+        ensures room { HasFifoRoom 0 result }
     {
         FifoState {
             stamp: Stamp::default(),
@@ -67,7 +66,6 @@ impl FifoState {
             history: Vec::new(alloc),
             puts: Event::new(alloc),
             takes: Event::new(alloc),
-            wanted: 0,
         }
     }
 
@@ -83,6 +81,26 @@ impl FifoState {
             BoundEvent::Taken(_) => self.takes.first_after(since),
             BoundEvent::Own | BoundEvent::Changed(_) | BoundEvent::Rise(_) | BoundEvent::Fall(_) =>
                 { None }
+        }
+    }
+
+    /// Appends the history up to the cycle of a stamp.
+    ///
+    /// # Errors
+    ///
+    /// Only where memory runs out.
+    pub fn append_history(&self, at: Stamp, out: &mut Vec<Entry>) -> Result<(), AllocError>
+        requires { (x : Cycle) × IsFifoIn self.now x }
+        ensures { OnOk result ((x : Cycle) → IsFifoIn self.now x →
+            out.new.items ≡ out.old.items ++ (cycle_at at x).history) }
+    {
+        if self.stamp.is_before(at) {
+            let first = self.values.len() - self.written as usize;
+            out.extend_from_slice(self.history.as_slice())?;
+            append_written(out, self.stamp, &self.values, first)
+        } else {
+            let settled = self.history.len() - self.read as usize;
+            out.extend_from_slice(&self.history.as_slice()[..settled])
         }
     }
 
@@ -132,7 +150,7 @@ impl FifoState {
 }
 
 impl FifoState {
-    ghost use Rattle.ooo_channels.specs.Kept.{IsFifoIn, IsEventKept, AreFifoEventsBy};
+    ghost use Rattle.ooo_channels.specs.Kept.{IsFifoIn, IsFifoAfter, IsEventKept, AreFifoEventsBy};
     ghost use Rattle.ooo_channels.specs.Room.{HasFifoRoom};
     ghost use Rattle.ooo_channels.specs.Cycles.{Cycle, cycle_at, cycle_after, readable, writable};
 
@@ -157,6 +175,26 @@ impl FifoState {
             self.read = 0;
             self.written = 0;
         }
+    }
+
+    /// Makes room for `n` more puts and takes.
+    ///
+    /// # Errors
+    ///
+    /// Only where memory runs out.
+    pub fn reserve(&mut self, n: usize) -> Result<(), AllocError>
+        ensures room { OnOk result (HasFifoRoom n self.new) }
+        ensures kept { (m : ℕ) → HasFifoRoom m self.old → HasFifoRoom m self.new }
+        ensures after { (c : ℕ) (below : Stamp) (x : Cycle) (calls : EventSpec → List CallSpec) →
+            IsFifoAfter c below x calls self.old → IsFifoAfter c below x calls self.new }
+    {
+        let history = self
+            .history
+            .reserve((self.written as usize).saturating_add(n));
+        let values = self.values.reserve(n);
+        let puts = self.puts.reserve(n);
+        let takes = self.takes.reserve(n);
+        history.and(values).and(puts).and(takes)
     }
 
     /// Puts a value in the cycle of a stamp, which isn't before the last one.
@@ -228,6 +266,26 @@ impl FifoState {
 }
 
 /// Appends the entries of the values from one on, which were written in the cycle of a stamp.
+fn append_written(
+    history: &mut Vec<Entry>,
+    stamp: Stamp,
+    values: &VecDeque<Value>,
+    first: usize,
+) -> Result<(), AllocError>
+    ensures { let puts = map (put_entry stamp) (drop first values.now.items) in
+        OnOk result (history.new.items ≡ history.old.items ++ puts) }
+{
+    for n in first..values.len() {
+        history.push(Entry {
+            stamp,
+            what: What::Put,
+            value: values[n],
+        })?;
+    }
+    Ok(())
+}
+
+/// Does so in the room that there is.
 fn log_written(history: &mut Vec<Entry>, stamp: Stamp, values: &VecDeque<Value>, first: usize)
     requires { vec_len history.old + (deque_len values.now - first) ≤ vec_capacity history.old }
     ensures items { let puts = map (put_entry stamp) (drop first values.now.items) in

@@ -20,7 +20,7 @@ use ooo_events::Event;
 use ooo_history::{Entry, What};
 use ooo_time::{Stamp, Time};
 use ooo_value::{BoundEvent, Kind, Value, convert, truth};
-use std::alloc::Global;
+use std::alloc::{AllocError, Global};
 
 /// What is kept of a signal (IEEE 1666-2011, 6.4): the signal in the cycle of its last request, and its history up to
 /// that cycle.
@@ -42,8 +42,6 @@ pub struct SignalState {
     pub rises: Event,
     /// Changed to false.
     pub falls: Event,
-    /// How many effects a reservation has counted so far.
-    pub wanted: usize,
 }
 
 impl SignalState {
@@ -62,6 +60,7 @@ impl SignalState {
         ensures rises { (below : Stamp) → IsEventKept below result.rises [] }
         ensures falls { (below : Stamp) → IsEventKept below result.falls [] }
         ensures by { AreSignalEventsBy result }
+        ensures room { HasSignalRoom 0 result }
     {
         SignalState {
             stamp: Stamp::default(),
@@ -72,8 +71,25 @@ impl SignalState {
             changes: Event::new(alloc),
             rises: Event::new(alloc),
             falls: Event::new(alloc),
-            wanted: 0,
         }
+    }
+
+    /// Makes room for `n` more requests.
+    ///
+    /// # Errors
+    ///
+    /// Only where memory runs out.
+    pub fn reserve(&mut self, n: usize) -> Result<(), AllocError>
+        ensures room { OnOk result (HasSignalRoom n self.new) }
+        ensures kept { (m : ℕ) → HasSignalRoom m self.old → HasSignalRoom m self.new }
+        ensures after { (c : ℕ) (below : Stamp) (x : Cycle) (calls : EventSpec → List CallSpec) →
+            IsSignalAfter c below x calls self.old → IsSignalAfter c below x calls self.new }
+    {
+        let history = self.history.reserve(n);
+        let changes = self.changes.reserve(n);
+        let rises = self.rises.reserve(n);
+        let falls = self.falls.reserve(n);
+        history.and(changes).and(rises).and(falls)
     }
 
     /// Requests a value in the cycle of a stamp, which isn't before the last one.
@@ -123,6 +139,26 @@ impl SignalState {
             BoundEvent::Fall(_) => self.falls.first_after(since),
             BoundEvent::Own | BoundEvent::Written(_) | BoundEvent::Taken(_) => None,
         }
+    }
+
+    /// Appends the history up to the cycle of a stamp.
+    ///
+    /// # Errors
+    ///
+    /// Only where memory runs out.
+    pub fn append_history(&self, at: Stamp, out: &mut Vec<Entry>) -> Result<(), AllocError>
+        ensures { OnOk result ((x : Cycle) → IsSignalIn self.now x →
+            out.new.items ≡ out.old.items ++ (cycle_at at x).history) }
+    {
+        out.extend_from_slice(self.history.as_slice())?;
+        if self.stamp.is_before(at) && self.is_changing() {
+            out.push(Entry {
+                stamp: self.stamp,
+                what: What::Changed,
+                value: self.next_value(),
+            })?;
+        }
+        Ok(())
     }
 
     /// The value after the update of the cycle.
