@@ -1,6 +1,6 @@
 -- Effects applied one by one.
-use Rattle.std.proofs.Common.{◌≡◌, Bool, true, false, cond, ℕ, suc, ◌+◌, ◌<◌, ◌≤◌, ◌++◌, arith, List, [], ◌∷◌, refl, ap, sym, subst, ◌∙◌, length, get_or, take, drop, add-one, append-nil}
-use Rattle.std.specs.Prelude.{fold, filter}
+use Rattle.std.proofs.Common.{◌≡◌, Bool, true, false, cond, ℕ, ◌+◌, ◌<◌, ◌≤◌, ◌++◌, arith, List, [], ◌∷◌, refl, ap, sym, subst, ◌∙◌, length, get_or, take, drop, add-one, append-nil}
+use Rattle.std.specs.Prelude.{filter}
 use Rattle.std.proofs.lemmas.List.{take_more, take_all}
 use Rattle.std.proofs.lemmas.List.Sums.{fold-append}
 use Rattle.std.proofs.Math.Seq.{drop-cons}

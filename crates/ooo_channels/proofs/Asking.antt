@@ -1,12 +1,11 @@
 -- What a bank answers of an event.
-use Rattle.std.proofs.Common.{◌≡◌, ◌≢◌, ℕ, ◌<◌, List, [], Option, Some, None, refl, ap, sym, subst, ◌∙◌, arith, length, get_or}
+use Rattle.std.proofs.Common.{◌≡◌, ◌≢◌, ℕ, ◌<◌, List, Option, Some, refl, ap, sym, subst, ◌∙◌, arith, length, get_or}
 use Rattle.std.specs.Prelude.{slice_get}
 use Rattle.std.proofs.lemmas.Option.{slice_get-get_or, slice_get_within}
 use Rattle.ooo_time.specs.declared.stamp.Stamp.{Stamp}
 use Rattle.ooo_time.specs.Stamps.{IsBefore}
 use Rattle.ooo_value.specs.declared.bound.BoundEvent.{BoundEvent}
 use Rattle.ooo_value.specs.declared.bound.BoundEvent.TheVariants as event
-use Rattle.ooo_value.specs.declared.bound.ChannelKind.{ChannelKind}
 use Rattle.ooo_value.specs.declared.bound.ChannelKind.TheVariants as kind
 use Rattle.ooo_events.specs.declared.call.Call.{Call}
 use Rattle.ooo_events.specs.Events.{EventState, IsEventAfter, Remembers}
@@ -15,7 +14,7 @@ use Rattle.ooo_channels.specs.declared.channel.ChannelState.{ChannelState}
 use Rattle.ooo_channels.specs.declared.channel.ChannelState.TheVariants as state
 use Rattle.ooo_channels.specs.Operations.{Operations}
 use Rattle.ooo_channels.specs.Calls.{calls_of, calls_by, channel_calls, own_calls, channel_of, FiresAt}
-use Rattle.ooo_channels.specs.Conditions.{HasChannel, HasEventAt, FitsChannels}
+use Rattle.ooo_channels.specs.Conditions.{HasEventAt, FitsChannels}
 use Rattle.ooo_channels.specs.Kept.{HasKind, HasEvent, IsEventKept, IsSignalEvent, IsFifoEvent}
 use Rattle.ooo_channels.specs.Bank.{BankState, IsBankAfter}
 use Rattle.ooo_channels.proofs.Banked.{channel_there, channel_kind}

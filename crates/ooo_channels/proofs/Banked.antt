@@ -1,11 +1,10 @@
 -- A bank after one more effect.
-use Rattle.std.proofs.Common.{◌≡◌, ◌≢◌, ℕ, zero, suc, ◌+◌, ◌<◌, ◌≤◌, ◌++◌, ◌==◌, Bool, true, false, cond, arith, List, [], ◌∷◌, Option, Some, None, refl, ap, sym, subst, ◌∙◌, append-nil, eq-eqb, length, get_or, set, ⊎_elim, add-one}
+use Rattle.std.proofs.Common.{◌≡◌, ◌≢◌, ℕ, zero, suc, ◌+◌, ◌<◌, ◌≤◌, ◌++◌, true, false, cond, arith, List, [], ◌∷◌, Some, refl, ap, sym, subst, ◌∙◌, append-nil, length, get_or, set, ⊎_elim, add-one}
 use Rattle.std.specs.Prelude.{slice_get, filter}
-use Rattle.std.proofs.lemmas.Bool.{cases_eq, ne_eqb}
+use Rattle.std.proofs.lemmas.Bool.{cases_eq}
 use Rattle.std.proofs.lemmas.List.{get_or-set_same, get_or-set_other, length-set}
 use Rattle.std.proofs.lemmas.Option.{slice_get_within}
 use Rattle.ooo_time.specs.declared.stamp.Stamp.{Stamp}
-use Rattle.ooo_time.specs.Stamps.{IsBefore}
 use Rattle.ooo_value.specs.declared.bound.BoundChannel.{BoundChannel}
 use Rattle.ooo_value.specs.declared.bound.BoundEvent.{BoundEvent}
 use Rattle.ooo_value.specs.declared.bound.BoundEvent.TheVariants as event
@@ -13,15 +12,14 @@ use Rattle.ooo_value.specs.declared.bound.ChannelKind.{ChannelKind}
 use Rattle.ooo_events.specs.declared.call.Call.{Call}
 use Rattle.ooo_events.specs.Events.{EventState}
 use Rattle.ooo_code.specs.declared.activation.Effect.{Effect}
-use Rattle.ooo_code.specs.declared.activation.Effect.TheVariants as effect
 use Rattle.ooo_channels.specs.declared.channel.ChannelState.{ChannelState}
-use Rattle.ooo_channels.specs.Operations.{Operation, Operations, after_effect, is_on, is_call_on}
+use Rattle.ooo_channels.specs.Operations.{Operations, after_effect, is_on, is_call_on}
 use Rattle.ooo_channels.specs.Cycles.{cycle_of, cycle_after}
-use Rattle.ooo_channels.specs.Calls.{own_calls, own_call, channel_calls, channel_of, renewals}
+use Rattle.ooo_channels.specs.Calls.{own_calls, own_call, channel_calls, renewals}
 use Rattle.ooo_channels.specs.Conditions.{HasChannel}
 use Rattle.ooo_channels.specs.Kept.{IsEventKept, IsChannelAfter, IsChannelNext, HasKind}
 use Rattle.ooo_channels.specs.Room.{HasRoom, count}
-use Rattle.ooo_channels.specs.Bank.{BankState, IsBankAfter, Covers, Applies}
+use Rattle.ooo_channels.specs.Bank.{BankState, IsBankAfter, Covers}
 use Rattle.ooo_channels.proofs.Steps.{operation, cycle_of-other, cycle_of-on, channel_calls-other, channel_calls-after, own_calls-after, IsChannelAfter-calls}
 
 -- what holds of the place that is set, and of each other, holds of each

@@ -1,12 +1,11 @@
 -- A fifo in its cycle.
-use Rattle.std.proofs.Common.{◌≡◌, ℕ, zero, suc, add-one, ◌+◌, ◌-◌, ◌≤◌, ◌<◌, ◌++◌, Bool, true, false, cond, arith, List, [], ◌∷◌, refl, ap, sym, subst, ◌∙◌, length, take, drop, map, get_or, length-append, length-drop, append-nil, append_assoc}
-use Rattle.std.proofs.lemmas.List.{take_more, get_or-drop, get_or_read, map-append, drop-append-le}
+use Rattle.std.proofs.Common.{◌≡◌, ℕ, zero, suc, add-one, ◌+◌, ◌-◌, ◌≤◌, ◌++◌, Bool, true, false, cond, arith, List, [], ◌∷◌, refl, ap, sym, subst, ◌∙◌, length, take, drop, map, get_or, length-append, length-drop, append-nil, append_assoc}
+use Rattle.std.proofs.lemmas.List.{take_more, get_or-drop, map-append, drop-append-le}
 use Rattle.std.proofs.Math.Seq.{drop-append_seam}
 use Rattle.ooo_time.specs.declared.stamp.Stamp.{Stamp}
-use Rattle.ooo_time.specs.Stamps.{IsBefore, is_before}
+use Rattle.ooo_time.specs.Stamps.{IsBefore}
 use Rattle.ooo_value.specs.declared.values.Value.{Value}
-use Rattle.ooo_code.specs.Channels.{Channel, Fifo, IsFifo, available, taken_from, updated}
-use Rattle.ooo_history.specs.declared.run.Entry.{Entry}
+use Rattle.ooo_code.specs.Channels.{Fifo, IsFifo, available, taken_from, updated}
 use Rattle.ooo_meaning.specs.World.{same_stamp, next_delta, entries_of}
 use Rattle.ooo_channels.specs.declared.fifo.FifoState.{FifoState}
 use Rattle.ooo_channels.specs.Cycles.{Cycle, cycle_at, later_channel, readable}

@@ -1,7 +1,7 @@
 -- A bank that forgets.
-use Rattle.std.proofs.Common.{◌≡◌, ℕ, Bool, true, false, cond, List, refl, sym, subst}
+use Rattle.std.proofs.Common.{◌≡◌, ℕ, Bool, cond, List, subst}
 use Rattle.ooo_time.specs.declared.stamp.Stamp.{Stamp}
-use Rattle.ooo_time.specs.Stamps.{IsBefore, is_before}
+use Rattle.ooo_time.specs.Stamps.{IsBefore}
 use Rattle.ooo_value.specs.declared.bound.BoundEvent.{BoundEvent}
 use Rattle.ooo_events.specs.declared.call.Call.{Call}
 use Rattle.ooo_events.specs.Events.{EventState}
@@ -9,10 +9,10 @@ use Rattle.ooo_channels.specs.declared.channel.ChannelState.{ChannelState}
 use Rattle.ooo_channels.specs.declared.channel.ChannelState.TheVariants as state
 use Rattle.ooo_channels.specs.Operations.{Operations, later_of, after_forgetting}
 use Rattle.ooo_channels.specs.Cycles.{Cycle, cycle_of}
-use Rattle.ooo_channels.specs.Calls.{notified_by, own_calls, channel_calls}
+use Rattle.ooo_channels.specs.Calls.{notified_by, own_calls}
 use Rattle.ooo_channels.specs.Kept.{IsEventKept, IsNotice, IsChannelAfter}
-use Rattle.ooo_channels.specs.Bank.{BankState, IsBankAfter}
-use Rattle.ooo_channels.proofs.Orders.{Earlier, earlier, not_earlier, earlier_or_not, IsBefore-from_not, IsBefore-trans}
+use Rattle.ooo_channels.specs.Bank.{IsBankAfter}
+use Rattle.ooo_channels.proofs.Orders.{Earlier, earlier, not_earlier, earlier_or_not, IsBefore-trans}
 
 -- what isn't before the later of two stamps is before neither
 not_before-later_of : (a b s : Stamp) → ¬ IsBefore s (later_of a b) → ¬ IsBefore s a

@@ -1,6 +1,6 @@
 -- Entries appended one by one.
-use Rattle.std.proofs.Common.{◌≡◌, ℕ, ◌+◌, ◌-◌, ◌<◌, ◌≤◌, ◌++◌, arith, List, [], ◌∷◌, refl, ap, sym, subst, ◌∙◌, length, take, drop, map, get_or, append_assoc, length-drop}
-use Rattle.std.proofs.lemmas.List.{take_more, get_or-drop, get_or_read, map-append}
+use Rattle.std.proofs.Common.{◌≡◌, ℕ, ◌+◌, ◌-◌, ◌<◌, ◌≤◌, ◌++◌, arith, List, [], ◌∷◌, ap, sym, ◌∙◌, length, take, drop, map, get_or, append_assoc, length-drop}
+use Rattle.std.proofs.lemmas.List.{take_more, get_or-drop, map-append}
 use Rattle.ooo_time.specs.declared.stamp.Stamp.{Stamp}
 use Rattle.ooo_value.specs.declared.values.Value.{Value}
 use Rattle.ooo_history.specs.declared.run.Entry.{Entry}

@@ -1,22 +1,17 @@
 -- A bank as it is made.
-use Rattle.std.proofs.Common.{◌≡◌, ◌≢◌, ℕ, zero, suc, ◌+◌, ◌<◌, ◌≤◌, ◌++◌, arith, List, [], ◌∷◌, Option, Some, None, refl, ap, sym, subst, ◌∙◌, length, get_or, take, ⊎_elim, length-append}
-use Rattle.std.specs.Prelude.{slice_get, ◌⊎◌}
-use Rattle.std.proofs.Common.{inl, inr}
-use Rattle.std.proofs.lemmas.Bool.{cases_lt}
-use Rattle.std.proofs.lemmas.List.{take_more}
+use Rattle.std.proofs.Common.{◌≡◌, ℕ, zero, suc, ◌+◌, ◌<◌, ◌++◌, arith, List, [], ◌∷◌, Some, None, refl, ap, sym, subst, ◌∙◌, length, get_or, length-append}
+use Rattle.std.specs.Prelude.{slice_get}
 use Rattle.std.proofs.lemmas.Option.{slice_get_within, slice_get-get_or}
 use Rattle.ooo_time.specs.declared.stamp.Stamp.{Stamp}
-use Rattle.ooo_time.specs.Stamps.{IsBefore}
 use Rattle.ooo_value.specs.declared.bound.BoundChannel.{BoundChannel}
 use Rattle.ooo_value.specs.declared.bound.BoundEvent.{BoundEvent}
 use Rattle.ooo_value.specs.declared.bound.BoundEvent.TheVariants as event
 use Rattle.ooo_events.specs.Events.{EventState, IsEventAfter}
-use Rattle.ooo_events.specs.declared.call.Call.{Call}
 use Rattle.ooo_channels.specs.declared.channel.ChannelState.{ChannelState}
 use Rattle.ooo_meaning.specs.World.{zero_stamp}
-use Rattle.ooo_channels.specs.Operations.{Operations, no_operations}
-use Rattle.ooo_channels.specs.Cycles.{Cycle, first_cycle, cycle_of}
-use Rattle.ooo_channels.specs.Calls.{notified_by, own_calls, channel_calls}
+use Rattle.ooo_channels.specs.Operations.{no_operations}
+use Rattle.ooo_channels.specs.Cycles.{first_cycle, cycle_of}
+use Rattle.ooo_channels.specs.Calls.{notified_by, own_calls}
 use Rattle.ooo_channels.specs.Kept.{IsEventKept, IsChannelAfter, HasKind}
 use Rattle.ooo_channels.specs.Bank.{IsBankAfter, IsFirst, AreFirst, AreNew}
 

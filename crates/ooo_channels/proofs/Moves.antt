@@ -1,9 +1,7 @@
 -- Channels that go on to a cycle.
-use Rattle.std.proofs.Common.{◌≡◌, Bool, true, false, cond, List, ◌++◌, refl, sym, subst, ap, ◌∙◌}
+use Rattle.std.proofs.Common.{◌≡◌, Bool, true, false, cond, ◌++◌, refl}
 use Rattle.ooo_time.specs.declared.stamp.Stamp.{Stamp}
 use Rattle.ooo_time.specs.Stamps.{IsBefore, is_before}
-use Rattle.ooo_code.specs.Channels.{Channel}
-use Rattle.ooo_history.specs.declared.run.Entry.{Entry}
 use Rattle.ooo_meaning.specs.World.{entries_of}
 use Rattle.ooo_channels.specs.Cycles.{Cycle, cycle_at, later_channel}
 use Rattle.ooo_channels.proofs.Orders.{is_before-yes, is_before-no}

@@ -1,8 +1,6 @@
 -- The events of a channel after one more operation on it.
-use Rattle.std.proofs.Common.{◌≡◌, ◌≢◌, ℕ, ◌+◌, ◌≤◌, ◌<◌, ◌++◌, ◌==◌, Bool, true, false, cond, arith, List, [], ◌∷◌, refl, ap, sym, subst, ◌∙◌, length, append-nil, eq-eqb, lt-ltb}
-use Rattle.std.specs.Prelude.{nat_lt}
+use Rattle.std.proofs.Common.{◌≡◌, ℕ, ◌≤◌, ◌++◌, ◌==◌, Bool, true, false, arith, List, [], ◌∷◌, refl, ap, sym, subst, ◌∙◌, length, append-nil, eq-eqb, lt-ltb}
 use Rattle.ooo_time.specs.declared.stamp.Stamp.{Stamp}
-use Rattle.ooo_time.specs.Stamps.{IsBefore}
 use Rattle.ooo_value.specs.declared.values.Value.{Value}
 use Rattle.ooo_value.specs.declared.bound.BoundEvent.{BoundEvent}
 use Rattle.ooo_value.specs.declared.bound.BoundEvent.TheVariants as event
@@ -11,7 +9,7 @@ use Rattle.ooo_events.specs.declared.call.Call.TheVariants as call
 use Rattle.ooo_events.specs.Calls.{Follows}
 use Rattle.ooo_events.specs.Events.{EventState}
 use Rattle.ooo_code.specs.declared.activation.Effect.TheVariants as effect
-use Rattle.ooo_code.specs.Channels.{Channel, IsSignal, IsFifo}
+use Rattle.ooo_code.specs.Channels.{IsSignal}
 use Rattle.ooo_channels.specs.declared.signal.SignalState.{SignalState}
 use Rattle.ooo_channels.specs.declared.fifo.FifoState.{FifoState}
 use Rattle.ooo_channels.specs.Operations.{Operation}

@@ -1,17 +1,16 @@
 -- Channels as they start.
-use Rattle.std.proofs.Common.{◌≡◌, ℕ, ◌≤◌, List, [], Option, Some, None, refl, ap, sym, subst, ◌∙◌, arith}
+use Rattle.std.proofs.Common.{◌≡◌, ℕ, [], Some, None, refl, ap, sym, subst, ◌∙◌, arith}
 use Rattle.std.specs.Prelude.{pos}
 use Rattle.ooo_time.specs.declared.stamp.Stamp.{Stamp}
 use Rattle.ooo_value.specs.declared.bound.BoundChannel.{BoundChannel}
-use Rattle.ooo_value.specs.declared.bound.ChannelKind.{ChannelKind}
 use Rattle.ooo_value.specs.declared.bound.ChannelKind.TheVariants as kind
 use Rattle.ooo_value.specs.Values.{value_of}
 use Rattle.ooo_events.specs.Calls.{Follows}
-use Rattle.ooo_code.specs.Channels.{Channel, Signal, IsSignal, IsFifo, first_channel}
+use Rattle.ooo_code.specs.Channels.{IsSignal, IsFifo, first_channel}
 use Rattle.ooo_meaning.specs.World.{zero_stamp}
 use Rattle.ooo_channels.specs.declared.signal.SignalState.{SignalState}
 use Rattle.ooo_channels.specs.declared.fifo.FifoState.{FifoState}
-use Rattle.ooo_channels.specs.Cycles.{Cycle, first_cycle}
+use Rattle.ooo_channels.specs.Cycles.{first_cycle}
 use Rattle.ooo_channels.specs.Room.{HasSignalRoom, HasFifoRoom}
 use Rattle.ooo_channels.specs.Kept.{IsEventKept, IsSignalAfter, IsFifoAfter, AreSignalEventsBy, AreFifoEventsBy, signal_of}
 

@@ -1,8 +1,7 @@
 -- One more effect: what it changes in the operations.
-use Rattle.std.proofs.Common.{◌≡◌, ◌≢◌, ℕ, ◌<◌, ◌++◌, ◌==◌, Bool, true, false, cond, arith, List, [], ◌∷◌, refl, ap, sym, subst, ◌∙◌, append-nil, eq-eqb}
+use Rattle.std.proofs.Common.{◌≡◌, ℕ, ◌++◌, true, false, List, [], ◌∷◌, refl, ap, sym, subst, ◌∙◌, append-nil}
 use Rattle.std.specs.Prelude.{fold}
 use Rattle.std.specs.List.{flat_map}
-use Rattle.std.proofs.lemmas.Bool.{ne_eqb}
 use Rattle.std.proofs.lemmas.Grind.{flat_map-append}
 use Rattle.std.proofs.lemmas.List.Sums.{fold-append}
 use Rattle.ooo_time.specs.declared.stamp.Stamp.{Stamp}
@@ -14,7 +13,7 @@ use Rattle.ooo_code.specs.declared.activation.Effect.TheVariants as effect
 use Rattle.ooo_channels.specs.declared.channel.ChannelState.{ChannelState}
 use Rattle.ooo_channels.specs.declared.channel.ChannelState.TheVariants as state
 use Rattle.ooo_channels.specs.Operations.{Operation, Operations, after_effect, is_on}
-use Rattle.ooo_channels.specs.Cycles.{Cycle, cycle_of, cycle_after, cycle_step, first_cycle}
+use Rattle.ooo_channels.specs.Cycles.{Cycle, cycle_of, cycle_after, cycle_step}
 use Rattle.ooo_channels.specs.Calls.{Notified, notified_by, notified_step, own_calls, own_call, channel_calls, channel_of, bears_on, renewals}
 use Rattle.ooo_channels.specs.Kept.{IsChannelAfter, IsNotice}
 

@@ -1,11 +1,11 @@
 -- The values of a fifo that may be read.
-use Rattle.std.proofs.Common.{◌≡◌, ℕ, zero, suc, ◌<◌, ◌++◌, Bool, true, false, cond, arith, List, [], ◌∷◌, Option, Some, refl, ap, sym, subst, ◌∙◌, length, length-append, get_or}
+use Rattle.std.proofs.Common.{◌≡◌, ℕ, zero, suc, ◌<◌, ◌++◌, Bool, true, false, cond, arith, List, [], ◌∷◌, Some, refl, ap, sym, subst, ◌∙◌, length, length-append, get_or}
 use Rattle.std.specs.Prelude.{slice_get}
 use Rattle.std.proofs.lemmas.Option.{slice_get-get_or}
 use Rattle.ooo_time.specs.declared.stamp.Stamp.{Stamp}
 use Rattle.ooo_time.specs.Stamps.{is_before}
 use Rattle.ooo_value.specs.declared.values.Value.{Value}
-use Rattle.ooo_code.specs.Channels.{Channel, Signal, Fifo, IsSignal, IsFifo, available, updated}
+use Rattle.ooo_code.specs.Channels.{Channel, Signal, IsSignal, IsFifo, available, updated}
 use Rattle.ooo_meaning.specs.World.{same_stamp, next_delta}
 use Rattle.ooo_channels.specs.Cycles.{Cycle, cycle_at, later_channel, readable, values_left}
 use Rattle.ooo_channels.proofs.Moves.{channel-cycle_at}

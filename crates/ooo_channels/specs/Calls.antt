@@ -1,5 +1,5 @@
 -- The calls on events that operations make.
-use Rattle.std.specs.Prelude.{◌≡◌, ℕ, ◌==◌, nat_lt, List, [], ◌∷◌, ◌++◌, length, fold, Bool, false, not, ◌&&◌, if◌then◌else◌, Option, Some, None, slice_get}
+use Rattle.std.specs.Prelude.{ℕ, ◌==◌, nat_lt, List, [], ◌∷◌, ◌++◌, length, fold, Bool, false, not, ◌&&◌, if◌then◌else◌, Some, None, slice_get}
 use Rattle.std.specs.List.{flat_map}
 use Rattle.ooo_time.specs.declared.stamp.Stamp.{Stamp}
 use Rattle.ooo_value.specs.declared.bound.BoundEvent.{BoundEvent}

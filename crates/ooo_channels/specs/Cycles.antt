@@ -1,5 +1,5 @@
 -- Channels moved by cycles along the stamps of what is applied to them (IEEE 1666-2011, 4.2.1, 6.4 and 6.23).
-use Rattle.std.specs.Prelude.{◌≡◌, ⊤, ℕ, List, [], ◌++◌, fold, Bool, if◌then◌else◌, Option, Some, None, slice_get, length}
+use Rattle.std.specs.Prelude.{◌≡◌, ⊤, ℕ, List, [], ◌++◌, fold, Bool, if◌then◌else◌, Option, Some, None, slice_get}
 use Rattle.ooo_time.specs.declared.stamp.Stamp.{Stamp}
 use Rattle.ooo_time.specs.declared.time.Time.{Time}
 use Rattle.ooo_time.specs.Stamps.{is_before}

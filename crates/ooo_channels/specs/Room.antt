@@ -1,7 +1,6 @@
 -- Room for effects.
 use Rattle.std.specs.Prelude.{ℕ, ◌+◌, ◌≤◌, List, length, filter, Bool, vec_len, vec_capacity}
 use Rattle.std.specs.VecDeque.{deque_len, deque_capacity}
-use Rattle.ooo_events.specs.Events.{EventState}
 use Rattle.ooo_code.specs.declared.activation.Effect.{Effect}
 use Rattle.ooo_channels.specs.declared.signal.SignalState.{SignalState}
 use Rattle.ooo_channels.specs.declared.fifo.FifoState.{FifoState}

@@ -1,4 +1,4 @@
-use Rattle.std.proofs.Common.{◌≡◌, arith, subst}
+use Rattle.std.proofs.Common.{arith, subst}
 use Rattle.ooo_channels.specs.Bank.{AreNew}
 use Rattle.ooo_channels.proofs.Making.{new_none, new_more}
 use Rattle.ooo_channels.proofs.bank.first_events.Goals as goal

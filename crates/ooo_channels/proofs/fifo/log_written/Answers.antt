@@ -1,4 +1,4 @@
-use Rattle.std.proofs.Common.{◌≡◌, arith, sym, ◌∙◌}
+use Rattle.std.proofs.Common.{arith, ◌∙◌}
 use Rattle.ooo_channels.proofs.Logging.{logged_more}
 use Rattle.ooo_channels.proofs.fifo.log_written.Goals as goal
 

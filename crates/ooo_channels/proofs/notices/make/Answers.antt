@@ -1,5 +1,4 @@
-use Rattle.std.proofs.Common.{◌≡◌, arith, ap}
-use Rattle.ooo_events.specs.Events.{EventState}
+use Rattle.std.proofs.Common.{arith}
 use Rattle.ooo_channels.proofs.Keeping.{call_kept}
 use Rattle.ooo_channels.proofs.notices.make.Goals as goal
 

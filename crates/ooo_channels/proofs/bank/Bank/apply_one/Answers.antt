@@ -1,7 +1,5 @@
-use Rattle.std.proofs.Common.{refl, sym, subst}
-use Rattle.ooo_code.specs.declared.activation.Effect.{Effect}
-use Rattle.ooo_code.specs.declared.activation.Effect.TheVariants as effect
-use Rattle.ooo_channels.specs.Bank.{BankState, IsBankAfter, Applies}
+use Rattle.std.proofs.Common.{sym, subst}
+use Rattle.ooo_channels.specs.Bank.{Applies}
 use Rattle.ooo_channels.proofs.Applying.{applies_nothing}
 use Rattle.ooo_channels.proofs.bank.Bank.apply_one.Goals as goal
 

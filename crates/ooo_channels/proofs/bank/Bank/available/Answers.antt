@@ -1,10 +1,8 @@
-use Rattle.std.proofs.Common.{◌≡◌, ◌≢◌, ℕ, ◌+◌, [], ◌∷◌, refl, ap, sym, subst, eq-eqb, cond, arith}
-use Rattle.std.proofs.lemmas.Bool.{ne_eqb}
+use Rattle.std.proofs.Common.{sym, subst}
 use Rattle.ooo_value.specs.declared.bound.ChannelKind.TheVariants as kind
-use Rattle.ooo_code.specs.declared.activation.Effect.TheVariants as effect
 use Rattle.ooo_channels.specs.Cycles.{cycle_of}
 use Rattle.ooo_channels.specs.Calls.{channel_calls}
-use Rattle.ooo_channels.specs.Bank.{BankState, IsBankAfter, Covers}
+use Rattle.ooo_channels.specs.Bank.{BankState, IsBankAfter}
 use Rattle.ooo_channels.proofs.Banked.{channel_kept, channel_there}
 use Rattle.ooo_channels.proofs.bank.Bank.available.Goals as goal
 

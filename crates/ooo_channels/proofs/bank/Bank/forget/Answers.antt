@@ -1,4 +1,4 @@
-use Rattle.std.proofs.Common.{◌≡◌, refl, sym, subst, cond, ap}
+use Rattle.std.proofs.Common.{◌≡◌, refl, sym, subst}
 use Rattle.ooo_channels.specs.Bank.{BankState, IsBankAfter}
 use Rattle.ooo_channels.specs.Operations.{after_forgetting, later_of}
 use Rattle.ooo_channels.proofs.Orders.{is_before-yes, is_before-no}

@@ -1,6 +1,5 @@
-use Rattle.std.proofs.Common.{◌≡◌, ◌<◌, ◌++◌, refl, ap, sym, subst, ◌∙◌, arith}
+use Rattle.std.proofs.Common.{◌<◌, ◌++◌, ap, sym, subst, ◌∙◌, arith}
 use Rattle.std.specs.Prelude.{length}
-use Rattle.ooo_value.specs.declared.bound.ChannelKind.TheVariants as kind
 use Rattle.ooo_channels.specs.Cycles.{cycle_of, cycle_at}
 use Rattle.ooo_channels.specs.Calls.{channel_calls}
 use Rattle.ooo_channels.specs.Bank.{BankState, IsBankAfter}

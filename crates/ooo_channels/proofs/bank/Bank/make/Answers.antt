@@ -1,10 +1,10 @@
-use Rattle.std.proofs.Common.{◌≡◌, length, refl, ap, sym, subst, ◌∙◌, arith}
+use Rattle.std.proofs.Common.{◌≡◌, length, ap, sym, subst, ◌∙◌, arith}
 use Rattle.std.specs.Prelude.{List}
 use Rattle.ooo_time.specs.declared.stamp.Stamp.{Stamp}
 use Rattle.ooo_value.specs.declared.bound.BoundChannel.{BoundChannel}
 use Rattle.ooo_value.specs.declared.bound.BoundEvent.{BoundEvent}
 use Rattle.ooo_meaning.specs.World.{zero_stamp}
-use Rattle.ooo_channels.specs.Bank.{BankState, IsBankAfter, AreFirst, AreNew}
+use Rattle.ooo_channels.specs.Bank.{IsBankAfter, AreFirst, AreNew}
 use Rattle.ooo_channels.specs.Operations.{no_operations}
 use Rattle.ooo_channels.proofs.Making.{bank_made, stamp_zero}
 use Rattle.ooo_channels.proofs.bank.Bank.make.Goals as goal

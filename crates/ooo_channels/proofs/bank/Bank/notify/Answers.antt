@@ -1,11 +1,8 @@
-use Rattle.std.proofs.Common.{◌≡◌, ◌<◌, ◌≢◌, ℕ, ◌+◌, [], ◌∷◌, refl, ap, sym, subst, eq-eqb, cond, arith}
+use Rattle.std.proofs.Common.{◌<◌, [], ◌∷◌, refl, ap, sym, subst, eq-eqb, cond, arith}
 use Rattle.std.proofs.lemmas.Bool.{ne_eqb}
-use Rattle.ooo_value.specs.declared.bound.ChannelKind.TheVariants as kind
 use Rattle.ooo_code.specs.declared.activation.Effect.TheVariants as effect
-use Rattle.ooo_channels.specs.Cycles.{cycle_of}
-use Rattle.ooo_channels.specs.Calls.{channel_calls}
 use Rattle.ooo_channels.specs.Bank.{BankState, IsBankAfter, Covers}
-use Rattle.std.specs.Prelude.{slice_get, length}
+use Rattle.std.specs.Prelude.{length}
 use Rattle.std.proofs.lemmas.Option.{slice_get_within}
 use Rattle.ooo_value.specs.declared.bound.BoundEvent.TheVariants as event
 use Rattle.ooo_events.specs.declared.call.Call.TheVariants as call

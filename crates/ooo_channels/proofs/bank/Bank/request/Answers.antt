@@ -1,4 +1,4 @@
-use Rattle.std.proofs.Common.{◌≡◌, ◌≢◌, ℕ, ◌+◌, [], ◌∷◌, refl, ap, sym, subst, eq-eqb, cond, arith}
+use Rattle.std.proofs.Common.{[], ◌∷◌, refl, sym, subst, eq-eqb}
 use Rattle.std.proofs.lemmas.Bool.{ne_eqb}
 use Rattle.ooo_value.specs.declared.bound.ChannelKind.TheVariants as kind
 use Rattle.ooo_code.specs.declared.activation.Effect.TheVariants as effect

@@ -1,4 +1,4 @@
-use Rattle.std.proofs.Common.{◌≡◌, ◌<◌, length, set, arith, sym, subst}
+use Rattle.std.proofs.Common.{◌<◌, length, set, arith, sym, subst}
 use Rattle.std.proofs.lemmas.Option.{slice_get_within}
 use Rattle.ooo_value.specs.declared.bound.BoundEvent.TheVariants as event
 use Rattle.ooo_channels.specs.Bank.{BankState, IsBankAfter, HasMoreRoom}

@@ -1,7 +1,6 @@
-use Rattle.std.proofs.Common.{◌≡◌, ◌<◌, ◌++◌, refl, ap, sym, subst, ◌∙◌, arith}
-use Rattle.std.specs.Prelude.{length}
+use Rattle.std.proofs.Common.{sym, subst}
 use Rattle.ooo_value.specs.declared.bound.ChannelKind.TheVariants as kind
-use Rattle.ooo_channels.specs.Cycles.{cycle_of, cycle_at}
+use Rattle.ooo_channels.specs.Cycles.{cycle_of}
 use Rattle.ooo_channels.specs.Calls.{channel_calls}
 use Rattle.ooo_channels.specs.Bank.{BankState, IsBankAfter}
 use Rattle.ooo_channels.proofs.Banked.{channel_kept, channel_there}

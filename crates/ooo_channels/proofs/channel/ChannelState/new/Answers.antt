@@ -1,7 +1,3 @@
-use Rattle.std.proofs.Common.{◌≡◌, [], None, refl, sym, subst, ap, ◌∙◌, arith}
-use Rattle.std.specs.Prelude.{Some}
-use Rattle.ooo_value.specs.declared.bound.BoundChannel.{BoundChannel}
-use Rattle.ooo_channels.specs.Cycles.{first_cycle}
 use Rattle.ooo_channels.proofs.Starts.{signal_starts, fifo_starts}
 use Rattle.ooo_channels.proofs.channel.ChannelState.new.Goals as goal
 

@@ -1,4 +1,4 @@
-use Rattle.std.proofs.Common.{◌≡◌, ℕ, arith, ap, refl}
+use Rattle.std.proofs.Common.{arith, refl}
 use Rattle.ooo_channels.proofs.Reserving.{fifo_reserved}
 use Rattle.ooo_channels.proofs.fifo.FifoState.reserve.Goals as goal
 

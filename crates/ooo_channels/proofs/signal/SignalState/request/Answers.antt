@@ -1,4 +1,4 @@
-use Rattle.std.proofs.Common.{◌≡◌, arith, ap}
+use Rattle.std.proofs.Common.{arith, ap}
 use Rattle.ooo_channels.specs.declared.signal.SignalState.{SignalState}
 use Rattle.ooo_channels.proofs.signal.SignalState.request.Goals as goal
 

@@ -1,6 +1,4 @@
-use Rattle.std.proofs.Common.{◌≡◌, ℕ, arith, ap, refl}
-use Rattle.ooo_events.specs.Events.{EventState}
-use Rattle.ooo_channels.specs.Room.{HasSignalRoom}
+use Rattle.std.proofs.Common.{arith, refl}
 use Rattle.ooo_channels.proofs.Reserving.{signal_reserved}
 use Rattle.ooo_channels.proofs.signal.SignalState.reserve.Goals as goal
 
