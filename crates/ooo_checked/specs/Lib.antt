@@ -1,0 +1,9 @@
+pub mod Breaches
+pub mod CallPlaces
+pub mod Exprs
+pub mod Kinds
+pub mod Notes
+pub mod Places
+pub mod Scopes
+pub mod Stats
+pub mod Things
