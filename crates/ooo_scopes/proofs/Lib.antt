@@ -1,0 +1,3 @@
+pub mod PlaceMaps
+pub mod Bindings
+pub mod InBlocks
