@@ -72,22 +72,23 @@ pub enum Fault {
 pub fn binary(op: Op, a: Value, b: Value) -> Result<Value, Fault>
     ensures { result ≡ binary_of op a b }
 {
+    let pair = Pair::of(a, b);
     match op {
-        Op::Add => add(Pair::of(a, b)),
-        Op::Subtract => subtract(Pair::of(a, b)),
-        Op::Multiply => multiply(Pair::of(a, b)),
-        Op::Divide => divide(Pair::of(a, b)),
-        Op::Remainder => remainder(Pair::of(a, b)),
-        Op::BitAnd => Ok(and(Pair::of(a, b))),
-        Op::BitOr => Ok(or(Pair::of(a, b))),
-        Op::BitXor => Ok(xor(Pair::of(a, b))),
+        Op::Add => add(pair),
+        Op::Subtract => subtract(pair),
+        Op::Multiply => multiply(pair),
+        Op::Divide => divide(pair),
+        Op::Remainder => remainder(pair),
+        Op::BitAnd => Ok(and(pair)),
+        Op::BitOr => Ok(or(pair)),
+        Op::BitXor => Ok(xor(pair)),
         Op::ShiftLeft => shift_left(a, b),
         Op::ShiftRight => shift_right(a, b),
-        Op::Equal => Ok(Value::Bool(equal(Pair::of(a, b)))),
-        Op::NotEqual => Ok(Value::Bool(!equal(Pair::of(a, b)))),
-        Op::Less => Ok(Value::Bool(less(Pair::of(a, b)))),
-        Op::LessOrEqual => Ok(Value::Bool(less_or_equal(Pair::of(a, b)))),
-        Op::Greater => Ok(Value::Bool(!less_or_equal(Pair::of(a, b)))),
-        Op::GreaterOrEqual => Ok(Value::Bool(!less(Pair::of(a, b)))),
+        Op::Equal => Ok(Value::Bool(equal(pair))),
+        Op::NotEqual => Ok(Value::Bool(!equal(pair))),
+        Op::Less => Ok(Value::Bool(less(pair))),
+        Op::LessOrEqual => Ok(Value::Bool(less_or_equal(pair))),
+        Op::Greater => Ok(Value::Bool(!less_or_equal(pair))),
+        Op::GreaterOrEqual => Ok(Value::Bool(!less(pair))),
     }
 }
