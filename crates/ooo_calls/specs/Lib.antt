@@ -1,0 +1,4 @@
+pub mod Cycles
+pub mod Marks
+pub mod Claims
+pub mod Answers

@@ -1,0 +1,8 @@
+/// A call: the number of the function in which it stands, and of the function that it calls.
+#[derive(Clone, Copy, Debug, PartialEq, Eq)]
+pub struct Call {
+    /// The function in which the call stands.
+    pub from: usize,
+    /// The function that is called.
+    pub to: usize,
+}
