@@ -48,5 +48,5 @@ is_right_at claim cs c =
     && (has_way_to_root claim cs c.to && has_way_from_root claim cs c.from))
 
 -- a claim is right at each call
-unfoldable pub is_right : Claim → List Call → Bool
+abbrev pub is_right : Claim → List Call → Bool
 is_right claim cs = list_all (is_right_at claim cs) cs

@@ -5,6 +5,7 @@ ghost use Rattle.ooo_calls.specs.Marks.{AreBelow, AreMarksOf};
 
 use crate::call::Call;
 use crate::closure;
+use crate::marks::is_marked;
 use crate::search::search;
 use sqlite_items::at;
 use std::alloc::{AllocError, Global};
@@ -56,9 +57,7 @@ impl Calls {
     pub fn is_called(&self, function: usize) -> bool
         ensures { result ≡ is_called self.now function }
     {
-        at(self.called.as_slice(), function)
-            .copied()
-            .unwrap_or(false)
+        is_marked(self.called.as_slice(), function)
     }
 
     /// Whether a call lies on a cycle of calls, by its place among the calls. Where no call has this place, `None`.
@@ -74,7 +73,7 @@ fn count_functions(calls: &[Call]) -> Result<usize, AllocError>
     ensures { IfOk result (λ count. AreBelow count calls.now) }
 {
     let mut count = 0usize;
-    for call in calls {
+    'calls: for call in calls {
         let greatest = call.from.max(call.to);
         if count <= greatest {
             count = greatest.checked_add(1).ok_or(AllocError)?;
@@ -89,7 +88,7 @@ fn called_functions(alloc: Global, calls: &[Call], count: usize) -> Result<Vec<b
     ensures { IfOk result (λ marks. AreMarksOf (is_called calls.now) marks.items) }
 {
     let mut marks = vec![in alloc; false; count]?;
-    for call in calls {
+    'calls: for call in calls {
         marks[call.to] = true;
     }
     Ok(marks)

@@ -4,7 +4,7 @@ ghost use Rattle.ooo_calls.specs.Cycles.{is_on_cycle, reaches};
 ghost use Rattle.ooo_calls.specs.Marks.{AreBelow, AreMarksOf};
 
 use crate::call::Call;
-use sqlite_items::at;
+use crate::marks::is_marked;
 use std::alloc::{AllocError, Global};
 
 /// Of each call whether it lies on a cycle, by a closure for each call: the time grows with the third power of the number
@@ -18,7 +18,7 @@ pub(crate) fn calls_on_cycle(
     ensures { IfOk result (λ answers. answers.items ≡ map (is_on_cycle calls.now) calls.now) }
 {
     let mut answers = Vec::with_capacity(alloc, calls.len())?;
-    for call in calls {
+    'calls: for call in calls {
         answers.push(is_on_cycle(alloc, calls, count, *call)?)?;
     }
     Ok(answers)
@@ -30,7 +30,7 @@ fn is_on_cycle(alloc: Global, calls: &[Call], count: usize, call: Call) -> Resul
     ensures { IfOk result (λ answer. answer ≡ is_on_cycle calls.now call) }
 {
     let marks = reaching(alloc, calls, count, call.from)?;
-    let comes_back = at(marks.as_slice(), call.to).copied().unwrap_or(false);
+    let comes_back = is_marked(marks.as_slice(), call.to);
     Ok(call.from == call.to || comes_back)
 }
 
@@ -46,7 +46,7 @@ fn reaching(
         IfOk result (λ marks. AreMarksOf (λ f. reaches rounds calls.now f target) marks.items) }
 {
     let mut marks = vec![in alloc; false; count]?;
-    for _round in 0..calls.len() + calls.len() {
+    'rounds: for _round in 0..calls.len() + calls.len() {
         marks = one_call_more(alloc, calls, marks.as_slice(), target)?;
     }
     Ok(marks)
@@ -65,8 +65,9 @@ fn one_call_more(
         && ((c.to == target) || slice_index_or before.now c.to false)) calls.now) marks.items) }
 {
     let mut marks = vec![in alloc; false; before.len()]?;
-    for call in calls {
-        if call.to == target || at(before, call.to).copied().unwrap_or(false) {
+    'calls: for call in calls {
+        let goes_on = call.to == target || is_marked(before, call.to);
+        if goes_on {
             marks[call.from] = true;
         }
     }

@@ -15,6 +15,7 @@ mod calls;
 mod chains;
 mod claim;
 mod closure;
+mod marks;
 mod search;
 #[cfg(test)]
 mod tests;
