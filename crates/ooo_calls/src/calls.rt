@@ -75,9 +75,10 @@ fn count_functions(calls: &[Call]) -> Result<usize, AllocError>
     let mut count = 0usize;
     'calls: for call in calls {
         let greatest = call.from.max(call.to);
-        if count <= greatest {
-            count = greatest.checked_add(1).ok_or(AllocError)?;
+        if greatest == usize::MAX {
+            return Err(AllocError);
         }
+        count = count.max(greatest + 1);
     }
     Ok(count)
 }

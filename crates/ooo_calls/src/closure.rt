@@ -66,10 +66,16 @@ fn one_call_more(
 {
     let mut marks = vec![in alloc; false; before.len()]?;
     'calls: for call in calls {
-        let goes_on = call.to == target || is_marked(before, call.to);
-        if goes_on {
+        if goes_on(before, target, *call) {
             marks[call.from] = true;
         }
     }
     Ok(marks)
+}
+
+// Whether a call goes to the target, or to a function that was marked before.
+fn goes_on(before: &[bool], target: usize, call: Call) -> bool
+    ensures { result ≡ ((call.to == target) || slice_index_or before.now call.to false) }
+{
+    call.to == target || is_marked(before, call.to)
 }
