@@ -1,9 +1,9 @@
 -- Where a claim is right, a call lies on a cycle exactly if it stays in its group.
-use Rattle.std.proofs.Common.{◌≡◌, ℕ, zero, suc, ◌+◌, ◌<◌, ◌≤◌, Bool, true, false, List, length, get_or, refl, ap, sym, ◌∙◌, subst, arith, inl, inr, ◌⊎◌, ◌==◌}
-use Rattle.std.specs.Prelude.{◌&&◌, ◌||◌, nat_lt, nat_le, Contains, map, slice_get, slice_index}
+use Rattle.std.proofs.Common.{◌≡◌, ℕ, zero, suc, ◌+◌, ◌<◌, ◌≤◌, Bool, true, false, List, length, refl, ap, sym, ◌∙◌, subst, arith, inl, inr, ◌⊎◌, ◌==◌}
+use Rattle.std.specs.Prelude.{◌&&◌, nat_lt, nat_le, Contains, map, slice_get, slice_index}
 use Rattle.std.specs.Option.{option_map_or}
 use Rattle.std.proofs.lemmas.Bool.{eq-eqb, eqb-true, ltb-true, leb-true, and_parts, or_cases, or_left, or_right}
-use Rattle.std.proofs.lemmas.Bool.Decides.{same_from_decides, Decides-eqb}
+use Rattle.std.proofs.lemmas.Bool.Decides.{same_from_decides}
 use Rattle.ooo_calls.specs.declared.call.Call.{Call}
 use Rattle.ooo_calls.specs.declared.claim.Claim.{Claim}
 use Rattle.ooo_calls.specs.declared.claim.Steps.{Steps}

@@ -1,11 +1,11 @@
 -- Marks of functions, and numbers below a count, call by call.
-use Rattle.std.proofs.Common.{◌≡◌, ℕ, ◌+◌, ◌<◌, ◌≤◌, Bool, true, false, List, [], length, get_or, take, refl, ap, sym, ◌∙◌, subst, arith, inl, inr, replicate, ◌==◌}
-use Rattle.std.specs.Prelude.{◌&&◌, ◌||◌, All, slice_set, slice_index_or}
+use Rattle.std.proofs.Common.{◌≡◌, ℕ, ◌+◌, ◌<◌, ◌≤◌, Bool, true, false, List, length, get_or, take, refl, ap, sym, ◌∙◌, subst, arith, inl, inr, replicate, ◌==◌}
+use Rattle.std.specs.Prelude.{◌&&◌, ◌||◌, slice_set, slice_index_or}
 use Rattle.std.specs.List.{list_any}
 use Rattle.std.proofs.lemmas.Bool.{cases_eq, eq-eqb, ne_eqb, or_right, and_right, cases_lt}
 use Rattle.std.proofs.lemmas.List.{get_or-set_same, get_or-set_other, get_or-replicate, get_or_past, length-replicate}
 use Rattle.std.proofs.lemmas.List.Folds.{list_any_more}
-use Rattle.std.proofs.lemmas.List.Elements.{All-more, All-weaker, All-get_or}
+use Rattle.std.proofs.lemmas.List.Elements.{All-more, All-weaker}
 use Rattle.ooo_calls.specs.declared.call.Call.{Call}
 use Rattle.ooo_calls.specs.Marks.{AreBelow, AreMarksOf}
 

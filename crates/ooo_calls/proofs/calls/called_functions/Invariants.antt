@@ -1,5 +1,5 @@
 -- The functions that the calls so far call are marked.
-use Rattle.std.proofs.Common.{◌≡◌, ◌==◌, ℕ, length, take}
+use Rattle.std.proofs.Common.{◌≡◌, ◌==◌, length, take}
 use Rattle.std.specs.List.{list_any}
 use Rattle.ooo_calls.specs.Marks.{AreMarksOf}
 use Rattle.ooo_calls.proofs.calls.called_functions.Given as goal

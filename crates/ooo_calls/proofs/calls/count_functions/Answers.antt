@@ -1,5 +1,5 @@
 -- Call by call.
-use Rattle.std.proofs.Common.{◌≡◌, length, take, arith, subst}
+use Rattle.std.proofs.Common.{arith, subst}
 use Rattle.std.proofs.lemmas.List.{take_all}
 use Rattle.ooo_calls.specs.Marks.{AreBelow}
 use Rattle.ooo_calls.proofs.MarkLemmas.{below_more}

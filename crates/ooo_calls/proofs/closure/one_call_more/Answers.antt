@@ -1,5 +1,5 @@
 -- Call by call.
-use Rattle.std.proofs.Common.{◌<◌, ◌∙◌, ap, sym, arith, length, length-set}
+use Rattle.std.proofs.Common.{◌∙◌, sym, arith, length-set}
 use Rattle.ooo_calls.proofs.MarkLemmas.{round_more, round_kept}
 use Rattle.ooo_calls.proofs.closure.one_call_more.Goals as goal
 use Rattle.ooo_calls.proofs.closure.one_call_more.Goals.{then-goes_on, else-goes_on}

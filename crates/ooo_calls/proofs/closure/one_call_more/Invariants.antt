@@ -1,5 +1,5 @@
 -- The functions that call the target, or one that was marked before, by the calls so far.
-use Rattle.std.proofs.Common.{◌≡◌, ◌==◌, ℕ, length, take, false}
+use Rattle.std.proofs.Common.{◌≡◌, ◌==◌, length, take, false}
 use Rattle.std.specs.Prelude.{◌&&◌, ◌||◌, slice_index_or}
 use Rattle.std.specs.List.{list_any}
 use Rattle.ooo_calls.specs.Marks.{AreMarksOf}

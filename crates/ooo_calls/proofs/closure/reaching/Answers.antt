@@ -1,5 +1,5 @@
 -- Round by round.
-use Rattle.std.proofs.Common.{ℕ, ◌≡◌, ◌==◌, length, false, sym, ◌∙◌, ap, arith}
+use Rattle.std.proofs.Common.{◌==◌, length, false, sym, ◌∙◌, ap}
 use Rattle.std.specs.Prelude.{◌&&◌, ◌||◌, slice_index_or}
 use Rattle.std.proofs.lemmas.List.{length-replicate}
 use Rattle.ooo_calls.specs.declared.call.Call.{Call}
