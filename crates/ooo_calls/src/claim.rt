@@ -41,8 +41,7 @@ impl Claim {
         requires { IsTrue (is_right self.now calls.now) }
         ensures { IfOk result (λ answers. answers.items ≡ map (is_on_cycle calls.now) calls.now) }
     {
-        let answers = self.stays_in_groups(alloc, calls)?;
-        Ok(answers)
+        self.stays_in_groups(alloc, calls)
     }
 
     // Of each call whether it stays in its group.
