@@ -1,3 +1,6 @@
+pub mod Ascending
 pub mod OrderLemmas
+pub mod LinkLemmas
 pub mod SettledLemmas
 pub mod TurnLemmas
+pub mod SearchLemmas

@@ -29,7 +29,7 @@ not_less_at_most d e out = record {
 }
 
 -- joining, by whether the second has a time
-joined_parts : (d e : Delay) → ((e.time.0 ≡ 0) × ((joined d e).time.0 ≡ d.time.0) × ((joined d e).deltas ≡ d.deltas + e.deltas)) ⊎ ((0 < e.time.0) × ((joined d e).time.0 ≡ d.time.0 + e.time.0) × ((joined d e).deltas ≡ e.deltas))
+pub joined_parts : (d e : Delay) → ((e.time.0 ≡ 0) × ((joined d e).time.0 ≡ d.time.0) × ((joined d e).deltas ≡ d.deltas + e.deltas)) ⊎ ((0 < e.time.0) × ((joined d e).time.0 ≡ d.time.0 + e.time.0) × ((joined d e).deltas ≡ e.deltas))
 joined_parts d e = at (eqb e.time.0 0) refl
   where
     two : Bool → Delay

@@ -11,9 +11,11 @@ use Rattle.ooo_segments.specs.declared.graphs.Graph.{Graph}
 use Rattle.ooo_segments.specs.Numbers.{IsIn}
 use Rattle.ooo_access.specs.declared.access.Access.{Access}
 use Rattle.ooo_advance.specs.Orders.{AtMost}
-use Rattle.ooo_advance.specs.Walks.{IsEdge, Walk, HasWalk, no_delay, sum_from, sum_of}
-use Rattle.ooo_advance.specs.Settled.{delay_at, HasAtMost, IsSettled}
-use Rattle.ooo_advance.specs.Turns.{edge_of, AreLinks, Fits, IsUnderWay, IsNearest, IsLowered}
+use Rattle.ooo_advance.specs.Walks.{IsEdge, Walk, HasWalk, edge_of, no_delay, sum_from, sum_of}
+use Rattle.ooo_advance.specs.Orders.{HasAtMost}
+use Rattle.ooo_advance.specs.Rows.{delay_at}
+use Rattle.ooo_advance.specs.Settled.{IsSettled}
+use Rattle.ooo_advance.specs.Turns.{AreLinks, Fits, IsUnderWay, IsNearest, IsLowered}
 use Rattle.ooo_advance.proofs.OrderLemmas.{joined_right, joined_more, at_most_refl, at_most_trans}
 
 -- ---- marks
@@ -60,8 +62,8 @@ further graph access a n v x k h e = record {
   sum = sum_push h.edges no_delay (edge_of n v k) ∙ ap (λ d. joined d k) h.sum;
 }
 
-weaker : (row : List (Option Delay)) (b : ℕ) (d e : Delay) → HasAtMost row b d → AtMost d e → HasAtMost row b e
-weaker row b d e h le = record { has = h.has; is = h.is; at_most = at_most_trans h.has d e h.at_most le }
+pub weaker : (known : Option Delay) (d e : Delay) → HasAtMost known d → AtMost d e → HasAtMost known e
+weaker known d e h le = record { has = h.has; is = h.is; at_most = at_most_trans h.has d e h.at_most le }
 
 -- ---- a turn
 
@@ -81,7 +83,7 @@ keep_start graph access a row row' done links x n s low =
     h.is ∙ ap Some (no_less h.has h.at_most)
 
 -- what comes by an edge from the segment that is done now
-from_now : (graph : Graph) (access : List Access) (a n : ℕ) (x : Delay) (row row' links : List (Option Delay)) (done : List Bool) → n < length done → IsUnderWay graph access a row done → IsNearest row done n x → AreLinks graph access n links → IsLowered (slice_set done n true) row row' links x → (e : Edge) → e.from ≡ n → IsEdge graph access e → Fits x e.delay → HasAtMost row' e.to (joined x e.delay)
+from_now : (graph : Graph) (access : List Access) (a n : ℕ) (x : Delay) (row row' links : List (Option Delay)) (done : List Bool) → n < length done → IsUnderWay graph access a row done → IsNearest row done n x → AreLinks graph access n links → IsLowered (slice_set done n true) row row' links x → (e : Edge) → e.from ≡ n → IsEdge graph access e → Fits x e.delay → HasAtMost (delay_at row' e.to) (joined x e.delay)
 from_now graph access a n x row row' links done inside s near link low e m edge fits =
     let done' = slice_set done n true in
     let here : IsIn done' n = in_marked done n inside in
@@ -92,7 +94,7 @@ from_now graph access a n x row row' links done inside s near link low e m edge 
           let keeps = joined_right x l.has e.delay l.at_most in
           let t = keeps.time in
           let f : Fits x l.has = omega arith in
-          weaker row' e.to (joined x l.has) (joined x e.delay) (low.lowered e.to l.has out l.is f) keeps
+          weaker (delay_at row' e.to) (joined x l.has) (joined x e.delay) (low.lowered e.to l.has out l.is f) keeps
       | inl in' ↦ elim (in_old done n e.to in') [
         | inl old ↦
             let r = s.reached e.to old in
@@ -123,10 +125,10 @@ turn graph access a n x row row' links done inside s near link low =
       closed = λ e d h is edge fits. elim (in_old done n e.from h) [
         | inl old ↦
             let r = s.closed e d old (sym (low.kept e.from h) ∙ is) edge fits in
-            weaker row' e.to r.has (joined d e.delay) (low.less e.to r.has r.is) r.at_most
+            weaker (delay_at row' e.to) r.has (joined d e.delay) (low.less e.to r.has r.is) r.at_most
         | inr m ↦
             let same : d ≡ x = let q = subst (λ j. delay_at row' j ≡ Some d) m is in cc in
-            subst (λ z. HasAtMost row' e.to (joined z e.delay)) (sym same)
+            subst (λ z. HasAtMost (delay_at row' e.to) (joined z e.delay)) (sym same)
             (from_now graph access a n x row row' links done inside s near link low e m edge (subst (λ z. Fits z e.delay) same fits))
       ];
       order = λ u v d k hu hv iu iv.

@@ -1,5 +1,6 @@
+pub mod Orders
 pub mod Walks
 pub mod Rows
-pub mod Orders
+pub mod Links
 pub mod Settled
 pub mod Turns

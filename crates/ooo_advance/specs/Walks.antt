@@ -27,6 +27,10 @@ pub record IsNotice (access : List Access) (edge : Edge) : Type 0 where
   pub to : slice_get access edge.to ≡ Some after
   pub notifies : Notifies before after edge.delay
 
+-- an edge by its parts
+abbrev pub edge_of : (from to : ℕ) → Delay → Edge
+edge_of from to delay = record { from = from; to = to; delay = delay }
+
 -- an edge within a process, or one by a notification
 abbrev pub IsEdge : Graph → List Access → Edge → Type 0
 IsEdge graph access edge = Contains graph.edges edge ⊎ IsNotice access edge

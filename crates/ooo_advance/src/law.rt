@@ -7,7 +7,8 @@ ghost use Rattle.ooo_access.specs.declared.access.Access.{Access as AccessSpec};
 ghost use Rattle.ooo_segments.specs.declared.graphs.Graph.{Graph as GraphSpec};
 ghost use Rattle.ooo_advance.specs.Orders.{AtMost};
 ghost use Rattle.std.specs.Prelude.{◌<◌, Bool, true, length, slice_set};
-ghost use Rattle.ooo_advance.specs.Settled.{IsSettled, delay_at};
+ghost use Rattle.ooo_advance.specs.Rows.{delay_at};
+ghost use Rattle.ooo_advance.specs.Settled.{IsSettled};
 ghost use Rattle.ooo_advance.specs.Turns.{AreLinks, IsLowered, IsNearest, IsUnderWay};
 ghost use Rattle.ooo_advance.specs.Walks.{IsLeast};
 

@@ -1,5 +1,12 @@
-ghost use Rattle.std.specs.Prelude.{◌≡◌, ◌<◌, length, MatchOption};
-ghost use Rattle.ooo_advance.specs.Turns.{IsNearest, HasNone};
+ghost use Rattle.std.specs.Prelude.{◌≡◌, ◌+◌, ◌<◌, ◌≤◌, ℕ, List, length, All, IfOk, IfSome, MatchOption};
+ghost use Rattle.ooo_time.specs.Delays.{greatest_deltas};
+ghost use Rattle.ooo_time.specs.Scales.{greatest_time};
+ghost use Rattle.ooo_segments.specs.Beginnings.{greatest_segments};
+ghost use Rattle.ooo_segments.specs.declared.graphs.Graph.{Graph as GraphSpec};
+ghost use Rattle.ooo_access.specs.declared.access.Access.{Access as AccessSpec};
+ghost use Rattle.ooo_advance.specs.Links.{HasRows, HasSteps};
+ghost use Rattle.ooo_advance.specs.Settled.{IsSettled};
+ghost use Rattle.ooo_advance.specs.Turns.{AllLinks, IsLowered, IsLoweredTo, IsNearer, IsNearest, HasNone};
 
 use crate::links::lesser;
 use ooo_time::{Delay, Time};
@@ -12,7 +19,15 @@ pub(crate) fn least_from(
     alloc: Global,
     links: &[Items<Option<Delay>>],
     source: u32,
-) -> Result<Items<Option<Delay>>, AllocError> {
+) -> Result<Items<Option<Delay>>, AllocError>
+    requires source { source < length links.now }
+    requires few { length links.now ≤ greatest_segments }
+    requires rows { HasRows (length links.now) links.now }
+    requires steps { HasSteps links.now }
+    ensures count { IfOk result (λ row. length row ≡ length links.now) }
+    ensures settled { (graph : GraphSpec) (access : List AccessSpec) →
+        AllLinks graph access links.now → IfOk result (IsSettled graph access source) }
+{
     let mut least = vec![in alloc; None; links.len()]?;
     let mut done = vec![in alloc; false; links.len()]?;
     least[source as usize] = Some(Delay::NONE);
@@ -36,13 +51,15 @@ fn nearest(least: &[Option<Delay>], done: &[bool]) -> Option<(usize, Delay)>
     best
 }
 
-// The nearer of what was found so far and a segment, unless that is done or not reached.
+// The nearer of the best so far and a segment, unless that is done or not reached.
 fn nearer(
     best: Option<(usize, Delay)>,
     n: usize,
     delay: Option<Delay>,
     is_done: bool,
-) -> Option<(usize, Delay)> {
+) -> Option<(usize, Delay)>
+    ensures { IsNearer best n delay is_done result }
+{
     match (delay, best) {
         (None, _) => best,
         (Some(_), _) if is_done => best,
@@ -52,15 +69,30 @@ fn nearer(
 }
 
 // Lowers what is known of those that aren't done to what comes by an edge from a segment of this delay.
-fn relax(least: &mut [Option<Delay>], done: &[bool], links: &[Option<Delay>], delay: Delay) {
+fn relax(least: &mut [Option<Delay>], done: &[bool], links: &[Option<Delay>], delay: Delay)
+    requires done { length done.now ≡ length least.old }
+    requires links { length links.now ≡ length least.old }
+    requires time { delay.time.0 ≤ greatest_time }
+    requires deltas { All (λ link. IfSome link (λ k. delay.deltas + k.deltas ≤ greatest_deltas)) links.now }
+    ensures { IsLowered done.now least.old least.new links.now delay }
+{
     for n in 0..least.len() {
         if !done[n] {
-            if let Some(link) = links[n] {
-                if link.time.0 <= Time::GREATEST.0 - delay.time.0 {
-                    let known = least[n];
-                    least[n] = Some(lesser(known, delay.then(link)));
-                }
-            }
+            least[n] = lowered(least[n], links[n], delay);
         }
+    }
+}
+
+// What is known of a segment, lowered to what comes by a link after this delay, within the greatest time.
+fn lowered(known: Option<Delay>, link: Option<Delay>, delay: Delay) -> Option<Delay>
+    requires time { delay.time.0 ≤ greatest_time }
+    requires deltas { IfSome link (λ k. delay.deltas + k.deltas ≤ greatest_deltas) }
+    ensures { IsLoweredTo known link delay result }
+{
+    match link {
+        Some(link) if link.time.0 <= Time::GREATEST.0 - delay.time.0 => {
+            Some(lesser(known, delay.then(link)))
+        }
+        _ => known,
     }
 }
