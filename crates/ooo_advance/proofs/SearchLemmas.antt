@@ -1,11 +1,12 @@
 -- The search from a segment, step by step.
 use Rattle.std.proofs.Common.{◌≡◌, ℕ, zero, suc, ◌+◌, ◌<◌, ◌≤◌, Bool, true, false, not, cond, List, [], ◌∷◌, length, get_or, Option, Some, None, refl, sym, ap, ◌∙◌, subst, arith, inl, inr, ◌⊎◌, replicate}
-use Rattle.std.specs.Prelude.{slice_get, slice_set, slice_index_or, count_by, MatchOption}
+use Rattle.std.specs.Prelude.{All, slice_get, slice_set, slice_index_or, count_by, IfSome, MatchOption}
 use Rattle.std.proofs.lemmas.Bool.{cases_lt, false≢true}
 use Rattle.std.proofs.lemmas.List.Sums.{sum_by-set, count_by-le-length}
-use Rattle.std.proofs.lemmas.List.{get_or-set_same, get_or-set_other, get_or-replicate, length-replicate, length-set}
+use Rattle.std.proofs.lemmas.List.{get_or-set_same, get_or-set_other, length-replicate, length-set}
+use Rattle.std.proofs.lemmas.List.Elements.{All-from_get_or}
 use Rattle.ooo_time.specs.declared.delay.Delay.{Delay}
-use Rattle.ooo_time.specs.Delays.{joined}
+use Rattle.ooo_time.specs.Delays.{joined, greatest_deltas}
 use Rattle.ooo_time.specs.Scales.{greatest_time}
 use Rattle.ooo_segments.specs.declared.graphs.Graph.{Graph}
 use Rattle.ooo_segments.specs.Numbers.{IsIn}
@@ -13,9 +14,12 @@ use Rattle.ooo_access.specs.declared.access.Access.{Access}
 use Rattle.ooo_advance.specs.Orders.{AtMost, HasAtMost}
 use Rattle.ooo_advance.specs.Walks.{HasWalk, no_delay}
 use Rattle.ooo_advance.specs.Rows.{delay_at}
+use Rattle.ooo_advance.specs.Links.{HasSteps}
+use Rattle.ooo_advance.specs.Settled.{IsSettled}
 use Rattle.ooo_advance.specs.Turns.{AllLinks, AreLinks, Fits, HasNone, IsLowered, IsLoweredTo, IsNearBy, IsNearer, IsNearest, IsUnderWay}
 use Rattle.ooo_advance.proofs.OrderLemmas.{at_most_refl, at_most_trans, joined_parts}
 use Rattle.ooo_advance.proofs.LinkLemmas.{delay_within}
+use Rattle.ooo_advance.proofs.TurnLemmas.{turn, settled}
 
 -- ---- the nearest segment
 
@@ -27,28 +31,33 @@ pub record NearestSoFar (row : List (Option Delay)) (done : List Bool) (n : ℕ)
 pub near_none : (row : List (Option Delay)) (done : List Bool) → NearestSoFar row done 0 None
 near_none row done = record { found = λ x e. absurd cc; near = λ v k lt out is. absurd (omega arith) }
 
-not_marked : (done : List Bool) (n : ℕ) (b : Bool) → b ≡ get_or done n b → b ≡ false → IsIn done n → ⊥
-not_marked [] n b is unset h = absurd cc
-not_marked (x ∷ xs) zero b is unset h = absurd cc
-not_marked (x ∷ xs) (suc n) b is unset h = not_marked xs n b is unset h
+not_in : (done : List Bool) (n : ℕ) → get_or done n false ≡ false → IsIn done n → ⊥
+not_in [] n unset h = absurd cc
+not_in (x ∷ xs) zero unset h = absurd cc
+not_in (x ∷ xs) (suc n) unset h = not_in xs n unset h
 
-marked : (done : List Bool) (n : ℕ) (b : Bool) → n < length done → b ≡ get_or done n b → (IsIn done n → ⊥) → b ≡ false
-marked [] n b lt is out = absurd (omega arith)
-marked (true ∷ xs) zero b lt is out = absurd (out refl)
-marked (false ∷ xs) zero b lt is out = is
-marked (x ∷ xs) (suc n) b lt is out = marked xs n b (omega arith) is out
+is_in : (done : List Bool) (n : ℕ) → get_or done n false ≡ true → IsIn done n
+is_in [] n set = absurd cc
+is_in (x ∷ xs) zero set = ap Some set
+is_in (x ∷ xs) (suc n) set = is_in xs n set
+
+unset_from : (done : List Bool) (n : ℕ) → (IsIn done n → ⊥) → get_or done n false ≡ false
+unset_from [] n out = refl
+unset_from (true ∷ xs) zero out = absurd (out refl)
+unset_from (false ∷ xs) zero out = refl
+unset_from (x ∷ xs) (suc n) out = unset_from xs n out
 
 nearer_by : (found : Option (ℕ × Delay)) (d k : Delay) → IsNearBy found d → AtMost d k → IsNearBy found k
 nearer_by found d k h le = record { has = h.has; is = h.is; at_most = at_most_trans h.has.1 d k h.at_most le }
 
 -- a segment more
-pub near_more : (row : List (Option Delay)) (done : List Bool) (n : ℕ) (best next : Option (ℕ × Delay)) (delay : Option Delay) (b : Bool) → n < length done → NearestSoFar row done n best → delay ≡ delay_at row n → b ≡ get_or done n b → IsNearer best n delay b next → NearestSoFar row done (n + 1) next
-near_more row done n best next delay b lt h is mark nearer = record {
+pub near_more : (row : List (Option Delay)) (done : List Bool) (n : ℕ) (best next : Option (ℕ × Delay)) → NearestSoFar row done n best → IsNearer best n (delay_at row n) (get_or done n false) next → NearestSoFar row done (n + 1) next
+near_more row done n best next h nearer = record {
   found = λ x e. elim (nearer.one_of x e) [
     | inl old ↦ h.found x old
     | inr new ↦ (
-      subst (λ v. IsIn done v → ⊥) (sym new.1) (not_marked done n b mark new.0),
-      subst (λ v. delay_at row v ≡ Some x.1) (sym new.1) (sym is ∙ new.2),
+      subst (λ v. IsIn done v → ⊥) (sym new.1) (not_in done n new.0),
+      subst (λ v. delay_at row v ≡ Some x.1) (sym new.1) new.2,
     )
   ];
   near = λ v k below out at. elim (cases_lt v n) [
@@ -57,7 +66,7 @@ near_more row done n best next delay b lt h is mark nearer = record {
         nearer_by next old.has.1 k (nearer.than_best old.has old.is) old.at_most
     | inr same ↦
         let e : v ≡ n = omega arith in
-        nearer.than_this k (marked done n b lt mark (subst (λ w. IsIn done w → ⊥) e out)) (is ∙ subst (λ w. delay_at row w ≡ Some k) e at)
+        nearer.than_this k (unset_from done n (subst (λ w. IsIn done w → ⊥) e out)) (subst (λ w. delay_at row w ≡ Some k) e at)
   ];
 }
 
@@ -97,33 +106,27 @@ in_or_not (false ∷ xs) zero = inr (λ h. cc)
 in_or_not (x ∷ xs) (suc n) = in_or_not xs n
 
 -- a segment that isn't done
-pub low_more : (done : List Bool) (row row' links : List (Option Delay)) (x : Delay) (n : ℕ) (known link r : Option Delay) (b : Bool) → n < length row' → LoweredSoFar done row row' links x n → known ≡ delay_at row' n → link ≡ delay_at links n → b ≡ get_or done n b → b ≡ false → IsLoweredTo known link x r → LoweredSoFar done row (slice_set row' n r) links x (n + 1)
-low_more done row row' links x n known link r b lt h is by mark unset low = record {
+pub low_more : (done : List Bool) (row row' links : List (Option Delay)) (x : Delay) (n : ℕ) (r : Option Delay) → n < length row' → LoweredSoFar done row row' links x n → get_or done n false ≡ false → IsLoweredTo (delay_at row' n) (delay_at links n) x r → LoweredSoFar done row (slice_set row' n r) links x (n + 1)
+low_more done row row' links x n r lt h unset low = record {
   lowered = λ v below out. elim (cases_lt v n) [
     | inl lower ↦ subst (λ z. IsLoweredTo (delay_at row v) (delay_at links v) x z) (sym (get_or-set_other row' n v r None (λ e. omega arith))) (h.lowered v lower out)
     | inr same ↦
         let e : n ≡ v = omega arith in
-        let old : known ≡ delay_at row n = is ∙ h.kept n (inr (omega arith)) in
-        let now = subst (λ z. IsLoweredTo z (delay_at links n) x r) old (subst (λ z. IsLoweredTo known z x r) by low) in
-        let here = subst (λ z. IsLoweredTo (delay_at row n) (delay_at links n) x z) (sym (get_or-set_same row' n r None lt)) now in
+        let old = subst (λ z. IsLoweredTo z (delay_at links n) x r) (h.kept n (inr (omega arith))) low in
+        let here = subst (λ z. IsLoweredTo (delay_at row n) (delay_at links n) x z) (sym (get_or-set_same row' n r None lt)) old in
         subst (λ m. IsLoweredTo (delay_at row m) (delay_at links m) x (delay_at (slice_set row' n r) m)) e here
   ];
   kept = λ v k.
-      let other : v ≡ n → ⊥ = λ e. elim k [ inl in' ↦ not_marked done n b mark unset (subst (λ m. IsIn done m) e in') | inr above ↦ omega arith ] in
+      let other : v ≡ n → ⊥ = λ e. elim k [ inl in' ↦ not_in done n unset (subst (λ m. IsIn done m) e in') | inr above ↦ omega arith ] in
       get_or-set_other row' n v r None other ∙ h.kept v (elim k [ inl in' ↦ inl in' | inr above ↦ inr (omega arith) ]);
 }
 
-is_marked : (done : List Bool) (n : ℕ) (b : Bool) → n < length done → b ≡ get_or done n b → b ≡ true → IsIn done n
-is_marked [] n b lt is set = absurd (omega arith)
-is_marked (x ∷ xs) zero b lt is set = ap Some (sym is ∙ set)
-is_marked (x ∷ xs) (suc n) b lt is set = is_marked xs n b (omega arith) is set
-
 -- a segment that is done
-pub low_other : (done : List Bool) (row row' links : List (Option Delay)) (x : Delay) (n : ℕ) (b : Bool) → n < length done → LoweredSoFar done row row' links x n → b ≡ get_or done n b → b ≡ true → LoweredSoFar done row row' links x (n + 1)
-low_other done row row' links x n b lt h mark set = record {
+pub low_other : (done : List Bool) (row row' links : List (Option Delay)) (x : Delay) (n : ℕ) → LoweredSoFar done row row' links x n → get_or done n false ≡ true → LoweredSoFar done row row' links x (n + 1)
+low_other done row row' links x n h set = record {
   lowered = λ v below out. elim (cases_lt v n) [
     | inl lower ↦ h.lowered v lower out
-    | inr same ↦ let e : n ≡ v = omega arith in absurd (out (subst (λ m. IsIn done m) e (is_marked done n b lt mark set)))
+    | inr same ↦ let e : n ≡ v = omega arith in absurd (out (subst (λ m. IsIn done m) e (is_in done n set)))
   ];
   kept = λ v k. h.kept v (elim k [ inl in' ↦ inl in' | inr above ↦ inr (omega arith) ]);
 }
@@ -238,3 +241,64 @@ bounds_begin count a = record {
   deltas = λ v d is. subst (λ (z : Delay). z.deltas + count_by not (replicate count false) ≤ count) (sym (first_only count a v d is).1)
   (let n = length-replicate {A = Bool} count false in let m = count_by-le-length not (replicate count false) in omega arith);
 }
+
+-- ---- the whole search
+
+-- a search from a segment: it is within its bounds, and under way by the edges of which these are the links
+pub record IsSearch (links : List (List (Option Delay))) (a : ℕ) (row : List (Option Delay)) (done : List Bool) : Type 0 where
+  pub count : length row ≡ length links
+  pub done_count : length done ≡ length links
+  pub bounds : IsBounded row done (length links)
+  pub search : (graph : Graph) (access : List Access) → AllLinks graph access links → IsUnderWay graph access a row done
+
+begins_as : (links : List (List (Option Delay))) (a count : ℕ) → count ≡ length links → a < count → IsSearch links a (first_row count a) (replicate count false)
+begins_as links a count e lt = record {
+  count = length-set (replicate count None) a (Some no_delay) ∙ length-replicate {A = Option Delay} count None ∙ e;
+  done_count = length-replicate {A = Bool} count false ∙ e;
+  bounds = subst (λ n. IsBounded (first_row count a) (replicate count false) n) e (bounds_begin count a);
+  search = λ graph access l. search_begins graph access count a lt;
+}
+
+pub begins : (links : List (List (Option Delay))) (a : ℕ) (row : List (Option Delay)) (done : List Bool) → a < length links → row ≡ replicate (length links) None → done ≡ replicate (length links) false → IsSearch links a (slice_set row a (Some no_delay)) done
+begins links a row done lt e f =
+    subst (λ d. IsSearch links a (slice_set row a (Some no_delay)) d) (sym f)
+    (subst (λ r. IsSearch links a (slice_set r a (Some no_delay)) (replicate (length links) false)) (sym e) (begins_as links a (length links) refl lt))
+
+pub turns : (links : List (List (Option Delay))) (a : ℕ) (row row' : List (Option Delay)) (done : List Bool) (n : ℕ) (x : Delay) → HasSteps links → IsSearch links a row done → IsNearest row done n x × (n < length row) → length row' ≡ length row → IsLowered (slice_set done n true) row row' (slice_index_or links n []) x → IsSearch links a row' (slice_set done n true)
+turns links a row row' done n x steps s near same low =
+    let c = s.count in
+    let d = s.done_count in
+    let lt = near.1 in
+    let in_done : n < length done = omega arith in
+    let in_links : n < length links = omega arith in
+    record {
+      count = same ∙ c;
+      done_count = length-set done n true ∙ d;
+      bounds = bounded_turn row row' (slice_index_or links n []) done (length links) n x in_done s.bounds near.0 (steps n) low;
+      search = λ graph access l. turn graph access a n x row row' (slice_index_or links n []) done in_done (s.search graph access l) near.0 (l n in_links) low;
+    }
+
+pub turn_smaller : (links : List (List (Option Delay))) (a : ℕ) (row : List (Option Delay)) (done : List Bool) (n : ℕ) (x : Delay) → IsSearch links a row done → IsNearest row done n x × (n < length row) → count_by not (slice_set done n true) < count_by not done
+turn_smaller links a row done n x s near =
+    let c = s.count in
+    let d = s.done_count in
+    let lt = near.1 in
+    let e = one_less done n (omega arith) near.0.not_done in
+    omega arith
+
+short_sum : (x : Delay) (o : Option Delay) → x.deltas < greatest_deltas → ((k : Delay) → o ≡ Some k → k.deltas ≤ 1) → IfSome o (λ k. x.deltas + k.deltas ≤ greatest_deltas)
+short_sum x None lt h = tt
+short_sum x (Some k) lt h = let s = h k refl in omega arith
+
+-- a delay of the search and that of a link after it have no more delta cycles than there are segments
+pub links_short : (links : List (List (Option Delay))) (a : ℕ) (row : List (Option Delay)) (done : List Bool) (n : ℕ) (x : Delay) → length links ≤ greatest_deltas → HasSteps links → IsSearch links a row done → IsNearest row done n x × (n < length row) → All (λ link. IfSome link (λ k. x.deltas + k.deltas ≤ greatest_deltas)) (slice_index_or links n [])
+links_short links a row done n x few steps s near =
+    let c = s.count in
+    let d = s.done_count in
+    let lt = near.1 in
+    let e = one_less done n (omega arith) near.0.not_done in
+    let b = s.bounds.deltas n x near.0.is in
+    All-from_get_or (λ link. IfSome link (λ k. x.deltas + k.deltas ≤ greatest_deltas)) (slice_index_or links n []) None (λ v within. short_sum x (delay_at (slice_index_or links n []) v) (omega arith) (λ k is. steps n v k is))
+
+pub ends : (links : List (List (Option Delay))) (a : ℕ) (row : List (Option Delay)) (done : List Bool) → IsSearch links a row done → HasNone row done (length row) → (graph : Graph) (access : List Access) → AllLinks graph access links → IsSettled graph access a row
+ends links a row done s none = λ graph access l. settled graph access a row done (s.search graph access l) (λ v k out is. none v k (delay_within row v k is) out is)

@@ -1,0 +1,20 @@
+-- Segment by segment.
+use Rattle.std.proofs.Common.{◌≡◌, ◌<◌, length, arith}
+use Rattle.ooo_advance.proofs.SearchLemmas.{low_more, low_other, low_end}
+use Rattle.ooo_advance.proofs.search.relax.Goals as goal
+use Rattle.ooo_advance.proofs.search.relax.Goals.{then-not-done-n, else-not-done-n}
+
+pub loop-n-preserved : goal.loop-n-preserved
+loop-n-preserved c =
+    let within : c.loop-n.n < length c.loop-n.least = let t = c.loop-n-test.true in let a = c.loop-n.auto.least in omega arith in
+    elim c.if-not-done-n.branch [
+      | then-not-done-n w ↦ rw w.least-is (low_more _ _ _ _ _ _ _ within c.loop-n.invariant w.if-not-done-n.true w.lowered.ensures)
+      | else-not-done-n w ↦ rw w.least-is (low_other _ _ _ _ _ _ c.loop-n.invariant w.if-not-done-n.false)
+    ]
+
+pub returns : goal.returns
+returns c =
+    let end : c.loop-n.n ≡ length c.args.least.now = let a = c.loop-n-test.false in let b = c.loop-n.auto.n-end in omega arith in
+    let links : length c.args.links.now ≡ c.loop-n.n = let n = c.requires.links in omega arith in
+    let row : length c.args.least.now ≡ c.loop-n.n = omega arith in
+    low_end _ _ _ _ _ _ links row c.loop-n.invariant
