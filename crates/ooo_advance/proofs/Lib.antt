@@ -4,3 +4,4 @@ pub mod LinkLemmas
 pub mod SettledLemmas
 pub mod TurnLemmas
 pub mod SearchLemmas
+pub mod TableLemmas

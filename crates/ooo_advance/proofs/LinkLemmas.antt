@@ -46,6 +46,10 @@ row_within [] n v d h = absurd cc
 row_within (x ∷ xs) zero v d h = omega arith
 row_within (x ∷ xs) (suc n) v d h = let r = row_within xs n v d h in omega arith
 
+-- what holds of each holds of what an index reads
+pub read_all : {A : Type 0} (P : A → Type 0) (xs : List A) (i : ℕ) (x : A) → i < length xs → x ≡ get_or xs i x → All P xs → P x
+read_all P xs i x lt is h = subst P (sym is) (h i x lt)
+
 -- ---- the least of some delays
 
 least_none : (P : Delay → Type 0) → ((d : Delay) → P d → ⊥) → IsLeastOf P None
@@ -70,6 +74,9 @@ least_more P Q known x r h l forth back here = record {
 
 abbrev pub Notice : Type 0
 Notice = ℕ × Option Time
+
+abbrev pub no_notice : Notice
+no_notice = (0, None)
 
 -- an access that notifies this instead
 abbrev pub notifying : Access → List Notice → Access
@@ -149,6 +156,9 @@ rows_more these access links x row h made = record {
 }
 
 -- ---- edges
+
+abbrev pub no_edge : Edge
+no_edge = edge_of 0 0 (record { time = record { 0 = 0 }; deltas = 0 })
 
 -- a graph with these edges instead
 abbrev pub with_edges : Graph → List Edge → Graph
