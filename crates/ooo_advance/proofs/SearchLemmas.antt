@@ -13,7 +13,7 @@ use Rattle.ooo_segments.specs.Numbers.{IsIn}
 use Rattle.ooo_access.specs.declared.access.Access.{Access}
 use Rattle.ooo_advance.specs.Orders.{AtMost, HasAtMost}
 use Rattle.ooo_advance.specs.Walks.{HasWalk, no_delay}
-use Rattle.ooo_advance.specs.Rows.{delay_at}
+use Rattle.ooo_advance.specs.Rows.{AreAddable, delay_at}
 use Rattle.ooo_advance.specs.Links.{HasSteps}
 use Rattle.ooo_advance.specs.Settled.{IsSettled}
 use Rattle.ooo_advance.specs.Turns.{AllLinks, AreLinks, Fits, HasNone, IsLowered, IsLoweredTo, IsNearBy, IsNearer, IsNearest, IsUnderWay}
@@ -299,6 +299,9 @@ links_short links a row done n x few steps s near =
     let e = one_less done n (omega arith) near.0.not_done in
     let b = s.bounds.deltas n x near.0.is in
     All-from_get_or (λ link. IfSome link (λ k. x.deltas + k.deltas ≤ greatest_deltas)) (slice_index_or links n []) None (λ v within. short_sum x (delay_at (slice_index_or links n []) v) (omega arith) (λ k is. steps n v k is))
+
+pub addable : (links : List (List (Option Delay))) (a : ℕ) (row : List (Option Delay)) (done : List Bool) → length links ≤ greatest_deltas → IsSearch links a row done → AreAddable row
+addable links a row done few s = λ b d is. record { time = s.bounds.time b d is; deltas = let h = s.bounds.deltas b d is in omega arith }
 
 pub ends : (links : List (List (Option Delay))) (a : ℕ) (row : List (Option Delay)) (done : List Bool) → IsSearch links a row done → HasNone row done (length row) → (graph : Graph) (access : List Access) → AllLinks graph access links → IsSettled graph access a row
 ends links a row done s none = λ graph access l. settled graph access a row done (s.search graph access l) (λ v k out is. none v k (delay_within row v k is) out is)

@@ -8,7 +8,7 @@ use Rattle.ooo_time.specs.declared.delay.Delay.{Delay}
 use Rattle.ooo_segments.specs.declared.graphs.Graph.{Graph}
 use Rattle.ooo_access.specs.declared.access.Access.{Access}
 use Rattle.ooo_advance.specs.Walks.{IsLeast}
-use Rattle.ooo_advance.specs.Rows.{IsTable, delay_at, entry_at}
+use Rattle.ooo_advance.specs.Rows.{AreAddable, IsTable, delay_at, entry_at}
 use Rattle.ooo_advance.specs.Links.{HasRows, IsLinkTable}
 use Rattle.ooo_advance.specs.Settled.{IsSettled}
 use Rattle.ooo_advance.proofs.SettledLemmas.{settled_is_least}
@@ -17,15 +17,17 @@ use Rattle.ooo_advance.proofs.SettledLemmas.{settled_is_least}
 pub record RowsSoFar (graph : Graph) (access : List Access) (n : ℕ) (rows : List (List (Option Delay))) : Type 0 where
   pub count : length rows ≡ n
   pub long : HasRows (length access) rows
+  pub addable : All AreAddable rows
   pub least : (a b : ℕ) → a < n → b < length access → IsLeast graph access a b (entry_at rows a b)
 
 pub rows_none : (graph : Graph) (access : List Access) → RowsSoFar graph access 0 []
-rows_none graph access = record { count = refl; long = All-nil (λ row. length row ≡ length access); least = λ a b lt in_b. absurd (omega arith) }
+rows_none graph access = record { count = refl; long = All-nil (λ row. length row ≡ length access); addable = All-nil AreAddable; least = λ a b lt in_b. absurd (omega arith) }
 
-pub rows_more : (graph : Graph) (access : List Access) (n : ℕ) (rows : List (List (Option Delay))) (row : List (Option Delay)) → RowsSoFar graph access n rows → length row ≡ length access → IsSettled graph access n row → RowsSoFar graph access (n + 1) (rows ++ row ∷ [])
-rows_more graph access n rows row h long s = record {
+pub rows_more : (graph : Graph) (access : List Access) (n : ℕ) (rows : List (List (Option Delay))) (row : List (Option Delay)) → RowsSoFar graph access n rows → length row ≡ length access → AreAddable row → IsSettled graph access n row → RowsSoFar graph access (n + 1) (rows ++ row ∷ [])
+rows_more graph access n rows row h long add s = record {
   count = let c = h.count in let p = length_push rows row in omega arith;
   long = All-push (λ r. length r ≡ length access) rows row h.long long;
+  addable = All-push AreAddable rows row h.addable add;
   least = λ a b lt in_b.
       let c = h.count in
       elim (cases_lt a n) [

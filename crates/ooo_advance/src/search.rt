@@ -5,6 +5,7 @@ ghost use Rattle.ooo_segments.specs.Beginnings.{greatest_segments};
 ghost use Rattle.ooo_segments.specs.declared.graphs.Graph.{Graph as GraphSpec};
 ghost use Rattle.ooo_access.specs.declared.access.Access.{Access as AccessSpec};
 ghost use Rattle.ooo_advance.specs.Links.{HasRows, HasSteps};
+ghost use Rattle.ooo_advance.specs.Rows.{AreAddable};
 ghost use Rattle.ooo_advance.specs.Settled.{IsSettled};
 ghost use Rattle.ooo_advance.specs.Turns.{AllLinks, IsLowered, IsLoweredTo, IsNearer, IsNearest, HasNone};
 
@@ -25,6 +26,7 @@ pub(crate) fn least_from(
     requires rows { HasRows (length links.now) links.now }
     requires steps { HasSteps links.now }
     ensures count { IfOk result (λ row. length row ≡ length links.now) }
+    ensures addable { IfOk result AreAddable }
     ensures settled { (graph : GraphSpec) (access : List AccessSpec) →
         AllLinks graph access links.now → IfOk result (IsSettled graph access source) }
 {

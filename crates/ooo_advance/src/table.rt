@@ -2,7 +2,7 @@ ghost use Rattle.std.specs.Prelude.{◌≡◌, ◌<◌, ◌≤◌, length, All, 
 ghost use Rattle.ooo_access.specs.Access.{IsInOrder};
 ghost use Rattle.ooo_segments.specs.Beginnings.{greatest_segments};
 ghost use Rattle.ooo_segments.specs.Edges.{IsLink};
-ghost use Rattle.ooo_advance.specs.Rows.{IsTable, entry_at};
+ghost use Rattle.ooo_advance.specs.Rows.{AreAddable, IsTable, entry_at};
 
 use crate::links::links_of;
 use crate::search::least_from;
@@ -40,7 +40,8 @@ impl AdvanceTable {
         requires few { length access.now ≤ greatest_segments }
         requires links { All (IsLink (length access.now)) graph.now.edges }
         requires in_order { All IsInOrder access.now }
-        ensures { IfOk result (IsTable graph.now access.now) }
+        ensures exact { IfOk result (IsTable graph.now access.now) }
+        ensures addable { IfOk result (λ rows. All AreAddable rows) }
     {
         let links = links_of(alloc, graph, access)?;
         let mut rows = Vec::with_capacity(alloc, access.len())?;

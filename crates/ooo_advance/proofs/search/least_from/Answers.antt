@@ -4,7 +4,7 @@ use Rattle.std.specs.Prelude.{All, IfSome, slice_set}
 use Rattle.std.proofs.lemmas.List.{take_at, get_or_default}
 use Rattle.ooo_time.specs.declared.delay.Delay.{Delay}
 use Rattle.ooo_time.specs.Delays.{greatest_deltas}
-use Rattle.ooo_advance.proofs.SearchLemmas.{IsSearch, begins, turns, turn_smaller, links_short, ends}
+use Rattle.ooo_advance.proofs.SearchLemmas.{IsSearch, begins, turns, turn_smaller, links_short, addable, ends}
 use Rattle.ooo_advance.proofs.search.least_from.Goals as goal
 
 pub turns-init : goal.turns-init
@@ -37,6 +37,9 @@ turns-preserved c =
     let same = c.relax.auto.least ∙ ap (λ (r : List (Option Delay)). length r) c.deref_mut.ensures.value in
     let made = turns _ _ _ _ _ _ _ c.requires.steps c.turns.invariant near same low in
     subst (λ (r : List (Option Delay)). IsSearch links c.args.source r (slice_set c.turns.done.items n true)) (sym (take_at c.relax.new.least (drop (length c.relax.new.least) c.turns.least.items) c.turns.least.len long)) made
+
+pub returns-clause-addable : goal.returns-clause-addable
+returns-clause-addable c = rw c.from_vec.ensures (addable _ _ _ _ c.requires.few c.turns.invariant)
 
 pub returns-clause-settled : goal.returns-clause-settled
 returns-clause-settled c =

@@ -28,10 +28,10 @@ loop-source-preserved c =
     let access = c.args.access.now in
     let made = rw c.as_slice.ensures.value at c.in_ok-least_from.ensures in
     let links = table_links graph access _ c.requires.links c.in_ok-links.ensures in
-    rw c.in_ok-push.ensures.items (rows_more _ _ _ _ _ c.loop-source.invariant (made.count ∙ c.in_ok-links.ensures.count) (made.settled graph access links))
+    rw c.in_ok-push.ensures.items (rows_more _ _ _ _ _ c.loop-source.invariant (made.count ∙ c.in_ok-links.ensures.count) c.in_ok-least_from.ensures.addable (made.settled graph access links))
 
-pub returns : goal.returns
-returns c =
+pub returns-clause-exact : goal.returns-clause-exact
+returns-clause-exact c =
     let end : c.loop-source.source ≡ length c.args.access.now = let a = c.loop-source-test.false in let b = c.loop-source.auto.source-end in omega arith in
     rows_end _ _ _ _ end c.loop-source.invariant
 
