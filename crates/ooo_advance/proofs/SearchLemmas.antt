@@ -73,8 +73,7 @@ near_more row done n best next h nearer = record {
 near_cases : (row : List (Option Delay)) (done : List Bool) (best : Option (ℕ × Delay)) → NearestSoFar row done (length row) best → MatchOption best (HasNone row done (length row)) (λ x. IsNearest row done x.0 x.1 × (x.0 < length row))
 near_cases row done None h = λ v k lt out is. let n = h.near v k lt out is in let e = n.is in absurd cc
 near_cases row done (Some x) h =
-    let f = h.found x refl in
-    (
+    let f = h.found x refl in (
       record {
         not_done = f.0;
         is = f.1;
@@ -224,8 +223,7 @@ first_at count a lt = get_or-set_same (replicate count None) a (Some no_delay) N
 pub search_begins : (graph : Graph) (access : List Access) (count a : ℕ) → a < count → IsUnderWay graph access a (first_row count a) (replicate count false)
 search_begins graph access count a lt = record {
   walks = λ b d is.
-      let f = first_only count a b d is in
-      (
+      let f = first_only count a b d is in (
         subst (λ z. HasWalk graph access a b z) (sym f.1) (record { edges = []; walk = sym f.0; sum = refl }),
         subst (λ (z : Delay). z.time.0 ≤ greatest_time) (sym f.1) (omega arith),
       );
@@ -239,7 +237,7 @@ pub bounds_begin : (count a : ℕ) → IsBounded (first_row count a) (replicate 
 bounds_begin count a = record {
   time = λ v d is. subst (λ (z : Delay). z.time.0 ≤ greatest_time) (sym (first_only count a v d is).1) (omega arith);
   deltas = λ v d is. subst (λ (z : Delay). z.deltas + count_by not (replicate count false) ≤ count) (sym (first_only count a v d is).1)
-  (let n = length-replicate {A = Bool} count false in let m = count_by-le-length not (replicate count false) in omega arith);
+      (let n = length-replicate {A = Bool} count false in let m = count_by-le-length not (replicate count false) in omega arith);
 }
 
 -- ---- the whole search

@@ -15,11 +15,7 @@ use std::alloc::{AllocError, Global};
 pub(crate) type Links = Vec<Items<Option<Delay>>>;
 
 // The least delay of an edge from each segment to each.
-pub(crate) fn links_of(
-    alloc: Global,
-    graph: &Graph,
-    access: &[Access],
-) -> Result<Links, AllocError>
+pub(crate) fn links_of(alloc: Global, graph: &Graph, access: &[Access]) -> Result<Links, AllocError>
     requires links { All (IsLink (length access.now)) graph.now.edges }
     requires in_order { All IsInOrder access.now }
     ensures { IfOk result (λ links. IsLinkTable graph.now access.now links.items) }

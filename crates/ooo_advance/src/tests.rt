@@ -204,7 +204,12 @@ fn notifications_lead_across_processes(rt: HostRuntime) -> Result<(), Fail> {
     let mut edges = Items::new(alloc);
     add(&mut edges, 0, 2, 4)?;
     let waited = [None, Some(7), Some(7), Some(8)];
-    let notified = [Some((7, Some(Time(10)))), Some((8, None)), None, Some((6, None))];
+    let notified = [
+        Some((7, Some(Time(10)))),
+        Some((8, None)),
+        None,
+        Some((6, None)),
+    ];
     let access = four(alloc, waited, notified)?;
     let rows = [
         [HERE, Some((10, 0)), Some((4, 0)), Some((10, 1))],
