@@ -1,21 +1,21 @@
 -- Tables of the least delays of edges.
-use Rattle.std.proofs.Common.{◌≡◌, ℕ, zero, suc, ◌+◌, ◌<◌, ◌≤◌, List, [], ◌∷◌, ◌++◌, length, get_or, Option, Some, None, refl, sym, ap, ◌∙◌, subst, arith, inl, inr, ◌⊎◌}
+use Rattle.std.proofs.Common.{◌≡◌, ℕ, zero, suc, ◌<◌, ◌≤◌, List, [], ◌∷◌, ◌++◌, length, get_or, Option, Some, None, refl, sym, ap, ◌∙◌, subst, arith, inl, inr, ◌⊎◌}
 use Rattle.std.specs.Prelude.{All, Contains, slice_get, slice_index_or}
-use Rattle.std.proofs.lemmas.Bool.{cases_eq, cases_lt}
-use Rattle.std.proofs.lemmas.List.{length_push, get_or_append_left, get_or_at, get_or_default}
+use Rattle.std.proofs.lemmas.Bool.{cases_eq}
+use Rattle.std.proofs.lemmas.List.{length_push, get_or_append_left, get_or_at}
 use Rattle.std.proofs.lemmas.List.Elements.{All-contains, All-from_get_or, Contains-push, Contains-push_cases, Contains-append_left}
-use Rattle.std.proofs.lemmas.Option.{slice_get_within, slice_get_past, slice_get-get_or, get_or_from_slice_get}
+use Rattle.std.proofs.lemmas.Option.{slice_get_within}
 use Rattle.ooo_time.specs.declared.time.Time.{Time}
 use Rattle.ooo_time.specs.declared.delay.Delay.{Delay}
 use Rattle.ooo_segments.specs.declared.graphs.Edge.{Edge}
 use Rattle.ooo_segments.specs.declared.graphs.Graph.{Graph}
 use Rattle.ooo_segments.specs.Edges.{IsLink, IsStep, delay_after}
 use Rattle.ooo_access.specs.declared.access.Access.{Access}
-use Rattle.ooo_advance.specs.Orders.{AtMost, HasAtMost, IsLesser, IsLeastOf}
-use Rattle.ooo_advance.specs.Walks.{IsEdge, IsNotice, Notifies, edge_of}
+use Rattle.ooo_advance.specs.Orders.{AtMost, IsLesser, IsLeastOf}
+use Rattle.ooo_advance.specs.Walks.{IsEdge, Notifies, edge_of}
 use Rattle.ooo_advance.specs.Rows.{delay_at, entry_at}
 use Rattle.ooo_advance.specs.Links.{AreNotices, AreNoticeRows, HasRows, HasSteps, IsAdded, IsLinkTable}
-use Rattle.ooo_advance.specs.Turns.{AllLinks, AreLinks}
+use Rattle.ooo_advance.specs.Turns.{AllLinks}
 use Rattle.ooo_advance.proofs.OrderLemmas.{at_most_trans}
 
 -- ---- lists

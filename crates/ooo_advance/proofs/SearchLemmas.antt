@@ -1,12 +1,12 @@
 -- The search from a segment, step by step.
 use Rattle.std.proofs.Common.{◌≡◌, ℕ, zero, suc, ◌+◌, ◌<◌, ◌≤◌, Bool, true, false, not, cond, List, [], ◌∷◌, length, get_or, Option, Some, None, refl, sym, ap, ◌∙◌, subst, arith, inl, inr, ◌⊎◌, replicate}
-use Rattle.std.specs.Prelude.{All, slice_get, slice_set, slice_index_or, count_by, IfSome, MatchOption}
-use Rattle.std.proofs.lemmas.Bool.{cases_lt, false≢true}
+use Rattle.std.specs.Prelude.{All, slice_set, slice_index_or, count_by, IfSome, MatchOption}
+use Rattle.std.proofs.lemmas.Bool.{cases_lt}
 use Rattle.std.proofs.lemmas.List.Sums.{sum_by-set, count_by-le-length}
 use Rattle.std.proofs.lemmas.List.{get_or-set_same, get_or-set_other, length-replicate, length-set}
 use Rattle.std.proofs.lemmas.List.Elements.{All-from_get_or}
 use Rattle.ooo_time.specs.declared.delay.Delay.{Delay}
-use Rattle.ooo_time.specs.Delays.{joined, greatest_deltas}
+use Rattle.ooo_time.specs.Delays.{greatest_deltas}
 use Rattle.ooo_time.specs.Scales.{greatest_time}
 use Rattle.ooo_segments.specs.declared.graphs.Graph.{Graph}
 use Rattle.ooo_segments.specs.Numbers.{IsIn}
@@ -16,7 +16,7 @@ use Rattle.ooo_advance.specs.Walks.{HasWalk, no_delay}
 use Rattle.ooo_advance.specs.Rows.{AreAddable, delay_at}
 use Rattle.ooo_advance.specs.Links.{HasSteps}
 use Rattle.ooo_advance.specs.Settled.{IsSettled}
-use Rattle.ooo_advance.specs.Turns.{AllLinks, AreLinks, Fits, HasNone, IsLowered, IsLoweredTo, IsNearBy, IsNearer, IsNearest, IsUnderWay}
+use Rattle.ooo_advance.specs.Turns.{AllLinks, HasNone, IsLowered, IsLoweredTo, IsNearBy, IsNearer, IsNearest, IsUnderWay}
 use Rattle.ooo_advance.proofs.OrderLemmas.{at_most_refl, at_most_trans, joined_parts}
 use Rattle.ooo_advance.proofs.LinkLemmas.{delay_within}
 use Rattle.ooo_advance.proofs.TurnLemmas.{turn, settled}

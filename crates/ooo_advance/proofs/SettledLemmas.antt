@@ -1,15 +1,14 @@
 -- A settled row has the least sums.
-use Rattle.std.proofs.Common.{◌≡◌, ℕ, ◌+◌, ◌<◌, ◌≤◌, List, [], ◌∷◌, Option, Some, None, refl, sym, ap, ◌∙◌, subst, arith, inl, inr, ◌⊎◌}
+use Rattle.std.proofs.Common.{◌≡◌, ℕ, ◌≤◌, List, [], ◌∷◌, Option, Some, None, refl, sym, subst, arith, inl, inr}
 use Rattle.std.proofs.lemmas.Bool.{cases_lt}
-use Rattle.ooo_time.specs.declared.time.Time.{Time}
 use Rattle.ooo_time.specs.declared.delay.Delay.{Delay}
-use Rattle.ooo_time.specs.Delays.{IsLess, joined}
+use Rattle.ooo_time.specs.Delays.{joined}
 use Rattle.ooo_time.specs.Scales.{greatest_time}
 use Rattle.ooo_segments.specs.declared.graphs.Edge.{Edge}
 use Rattle.ooo_segments.specs.declared.graphs.Graph.{Graph}
 use Rattle.ooo_access.specs.declared.access.Access.{Access}
 use Rattle.ooo_advance.specs.Orders.{AtMost}
-use Rattle.ooo_advance.specs.Walks.{IsEdge, Walk, no_delay, sum_from, sum_of, HasWalk, NoLess, AllBeyond, IsLeast}
+use Rattle.ooo_advance.specs.Walks.{Walk, no_delay, sum_from, sum_of, IsLeast}
 use Rattle.ooo_advance.specs.Orders.{HasAtMost}
 use Rattle.ooo_advance.specs.Rows.{delay_at}
 use Rattle.ooo_advance.specs.Settled.{IsSettled}

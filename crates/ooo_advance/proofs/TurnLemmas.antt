@@ -1,8 +1,6 @@
 -- A turn of the search, and its end.
-use Rattle.std.proofs.Common.{◌≡◌, ℕ, zero, suc, ◌+◌, ◌<◌, ◌≤◌, Bool, true, false, List, [], ◌∷◌, ◌++◌, length, Option, Some, None, refl, sym, ap, ◌∙◌, subst, arith, inl, inr, ◌⊎◌}
-use Rattle.std.specs.Prelude.{slice_get, slice_set}
-use Rattle.std.proofs.lemmas.Bool.{cases_lt}
-use Rattle.ooo_time.specs.declared.time.Time.{Time}
+use Rattle.std.proofs.Common.{◌≡◌, ℕ, zero, suc, ◌<◌, ◌≤◌, Bool, true, false, List, [], ◌∷◌, ◌++◌, length, Option, Some, refl, sym, ap, ◌∙◌, subst, arith, inl, inr, ◌⊎◌}
+use Rattle.std.specs.Prelude.{slice_set}
 use Rattle.ooo_time.specs.declared.delay.Delay.{Delay}
 use Rattle.ooo_time.specs.Delays.{joined}
 use Rattle.ooo_time.specs.Scales.{greatest_time}
@@ -11,7 +9,7 @@ use Rattle.ooo_segments.specs.declared.graphs.Graph.{Graph}
 use Rattle.ooo_segments.specs.Numbers.{IsIn}
 use Rattle.ooo_access.specs.declared.access.Access.{Access}
 use Rattle.ooo_advance.specs.Orders.{AtMost}
-use Rattle.ooo_advance.specs.Walks.{IsEdge, Walk, HasWalk, edge_of, no_delay, sum_from, sum_of}
+use Rattle.ooo_advance.specs.Walks.{IsEdge, Walk, HasWalk, edge_of, no_delay, sum_from}
 use Rattle.ooo_advance.specs.Orders.{HasAtMost}
 use Rattle.ooo_advance.specs.Rows.{delay_at}
 use Rattle.ooo_advance.specs.Settled.{IsSettled}

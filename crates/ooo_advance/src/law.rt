@@ -22,8 +22,9 @@ pub fn joining_keeps_the_order()
 
 /// A row of delays that are sums of walks from a segment, and that no edge lowers, has the least sums.
 pub fn settled_rows_are_least()
-    ensures { (graph : GraphSpec) (access : List AccessSpec) (a : ℕ) (row : List (Option DelaySpec)) →
-        IsSettled graph access a row → (b : ℕ) → IsLeast graph access a b (delay_at row b) }
+    ensures { (graph : GraphSpec) (access : List AccessSpec) (a : ℕ)
+        (row : List (Option DelaySpec)) → IsSettled graph access a row →
+        (b : ℕ) → IsLeast graph access a b (delay_at row b) }
 {}
 
 /// What holds while a search is under way holds after a turn, in which the nearest segment that isn't done is done.

@@ -75,7 +75,8 @@ fn relax(least: &mut [Option<Delay>], done: &[bool], links: &[Option<Delay>], de
     requires done { length done.now ≡ length least.old }
     requires links { length links.now ≡ length least.old }
     requires time { delay.time.0 ≤ greatest_time }
-    requires deltas { All (λ link. IfSome link (λ k. delay.deltas + k.deltas ≤ greatest_deltas)) links.now }
+    requires deltas { All (λ link. IfSome link (λ k. delay.deltas + k.deltas ≤ greatest_deltas))
+        links.now }
     ensures { IsLowered done.now least.old least.new links.now delay }
 {
     for n in 0..least.len() {

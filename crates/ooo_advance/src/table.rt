@@ -31,7 +31,7 @@ impl Model for AdvanceTable {
 }
 
 impl AdvanceTable {
-    /// The table of a design's segments, by its graph and their accesses.
+    /// The table of a design's segments, by its graph and the access of each segment, in the order of the segments.
     ///
     /// # Errors
     ///

@@ -1,5 +1,5 @@
 -- Row by row.
-use Rattle.std.proofs.Common.{◌++◌, ◌∷◌, [], List, sym, subst, take}
+use Rattle.std.proofs.Common.{◌++◌, ◌∷◌, [], sym, subst, take}
 use Rattle.std.proofs.lemmas.List.{take_more, take_all}
 use Rattle.ooo_advance.specs.Links.{AreNoticeRows}
 use Rattle.ooo_advance.proofs.LinkLemmas.{rows_none, rows_more}

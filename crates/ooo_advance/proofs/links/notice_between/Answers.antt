@@ -5,7 +5,7 @@ use Rattle.std.proofs.lemmas.Bool.{false≢true}
 use Rattle.std.proofs.lemmas.List.{take_more, take_all}
 use Rattle.ooo_advance.specs.Orders.{IsLeastOf}
 use Rattle.ooo_advance.specs.Walks.{Notifies}
-use Rattle.ooo_advance.proofs.LinkLemmas.{Notice, no_notice, notices_none, notices_more, notices_other, notifying}
+use Rattle.ooo_advance.proofs.LinkLemmas.{no_notice, notices_more, notices_other, notifying}
 use Rattle.ooo_advance.proofs.links.notice_between.Goals as goal
 use Rattle.ooo_advance.proofs.links.notice_between.Goals.{then-has_number, else-has_number}
 

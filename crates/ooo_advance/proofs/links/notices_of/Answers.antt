@@ -1,7 +1,6 @@
 -- Segment by segment.
-use Rattle.std.proofs.Common.{◌++◌, ◌∷◌, [], List, sym, subst, take}
+use Rattle.std.proofs.Common.{◌++◌, ◌∷◌, [], sym, subst, take}
 use Rattle.std.proofs.lemmas.List.{take_more, take_all}
-use Rattle.ooo_access.specs.declared.access.Access.{Access}
 use Rattle.ooo_access.specs.Access.{IsInOrder}
 use Rattle.ooo_advance.specs.Links.{AreNotices}
 use Rattle.ooo_advance.proofs.LinkLemmas.{row_none, row_more, read_all}

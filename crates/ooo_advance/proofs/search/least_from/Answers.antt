@@ -1,5 +1,5 @@
 -- Turn by turn.
-use Rattle.std.proofs.Common.{◌≡◌, ◌+◌, ◌<◌, ◌≤◌, ◌∙◌, ◌++◌, List, [], true, drop, take, length, arith, sym, subst, ap, Option, get_or, rules}
+use Rattle.std.proofs.Common.{◌+◌, ◌<◌, ◌≤◌, ◌∙◌, List, [], true, drop, length, arith, sym, subst, ap, Option, rules}
 use Rattle.std.specs.Prelude.{All, IfSome, slice_set}
 use Rattle.std.proofs.lemmas.List.{take_at, get_or_default}
 use Rattle.ooo_time.specs.declared.delay.Delay.{Delay}

@@ -1,5 +1,5 @@
 -- Row by row.
-use Rattle.std.proofs.Common.{◌≡◌, ◌<◌, ◌≤◌, ◌∙◌, length, arith, ap}
+use Rattle.std.proofs.Common.{◌≡◌, ◌∙◌, length, arith}
 use Rattle.ooo_advance.proofs.LinkLemmas.{table_links, table_steps}
 use Rattle.ooo_advance.proofs.TableLemmas.{links_square, rows_none, rows_more, rows_end, rows_long}
 use Rattle.ooo_advance.proofs.table.AdvanceTable.make.Goals as goal
