@@ -1,0 +1,5 @@
+pub mod Exprs
+pub mod Stats
+pub mod Modules
+pub mod Units
+pub mod Laws
