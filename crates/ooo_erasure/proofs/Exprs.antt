@@ -55,12 +55,15 @@ args_in (e ∷ es) s = ap₂ (λ x xs. x ∷ xs) (e.1 s) (args_in es s)
 
 -- each form, of whose parts it is shown
 step : (y : Expr-F Shown) → Same (roll-Expr (map-Expr Shown Expr (λ e. e.0) y))
-step (layer.Number n) s = at_form (layer.Number n) (form.Number _ n) s _ (checked.rolls-Number _ n) (tree.rolls-Number n) refl
-step (layer.Truth b at) s = at_form (layer.Truth b at) (form.Truth b at) s _ (checked.rolls-Truth b at) (tree.rolls-Truth b at) refl
-step (layer.Name w) s = at_form (layer.Name w) (form.Name _ _) s _ (checked.rolls-Name _ _) (tree.rolls-Name w) refl
+step (layer.Number n) s =
+    at_form (layer.Number n) (form.Number _ n) s _ (checked.rolls-Number _ n) (tree.rolls-Number n) refl
+step (layer.Truth b at) s =
+    at_form (layer.Truth b at) (form.Truth b at) s _ (checked.rolls-Truth b at) (tree.rolls-Truth b at) refl
+step (layer.Name w) s =
+    at_form (layer.Name w) (form.Name _ _) s _ (checked.rolls-Name _ _) (tree.rolls-Name w) refl
 step (layer.Paren at e) s =
-    at_form (layer.Paren at e.0) (form.Paren _ at (tree_in s e)) s _ (checked.rolls-Paren _ at _) (tree.rolls-Paren at e.0)
-    (rw (e.1 s) refl)
+    at_form (layer.Paren at e.0) (form.Paren _ at (tree_in s e)) s _ (checked.rolls-Paren _ at _)
+    (tree.rolls-Paren at e.0) (rw (e.1 s) refl)
 step (layer.Index w i) s =
     at_form (layer.Index w i.0) (form.Index _ _ (tree_in s i)) s _ (checked.rolls-Index _ _ _) (tree.rolls-Index w i.0)
     (rw (i.1 s) refl)

@@ -2,3 +2,5 @@ pub mod Lists
 pub mod Exprs
 pub mod Simples
 pub mod Stats
+pub mod Modules
+pub mod Units

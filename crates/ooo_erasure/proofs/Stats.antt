@@ -16,9 +16,9 @@ use Rattle.ooo_checked.specs.declared.context.Context.{Context}
 use Rattle.ooo_checked.specs.declared.stat.CheckedStat.{CheckedStat, CheckedStat-F, map-CheckedStat, roll-CheckedStat, fold-roll-CheckedStat}
 use Rattle.ooo_checked.specs.declared.stat.CheckedStat.TheOpen as form
 use Rattle.ooo_checked.specs.declared.stat.CheckedStat.TheVariants as checked
-use Rattle.ooo_checked.specs.Exprs.{expr_of, tree_of, kind_written}
+use Rattle.ooo_checked.specs.Exprs.{tree_of, kind_written}
 use Rattle.ooo_checked.specs.Scopes.{Scope, entered}
-use Rattle.ooo_checked.specs.Stats.{Reading, Stepped, initial_of, declarator_of, declarators_of, local_of, start_of, option_start_of, step_of, readings_of, looped, stat_of, stat_step, stats_of}
+use Rattle.ooo_checked.specs.Stats.{Reading, initial_of, declarator_of, local_of, start_of, option_start_of, step_of, readings_of, looped, stat_of, stat_step, stats_of}
 use Rattle.ooo_erasure.specs.Exprs.{erased_expr}
 use Rattle.ooo_erasure.specs.Stats.{erased_declarator, erased_local, erased_start, erased_simple, erased_stat, erased_stat_step}
 use Rattle.ooo_erasure.proofs.Exprs.{expr_same, option_same, right_same}
@@ -31,7 +31,8 @@ initial_same : (o : Option Expr) (s : Scope) → option_map erased_expr (tree_of
 initial_same None s = refl
 initial_same (Some e) s = ap Some (right_same e s)
 
-declarator_same : (k : Kind) (cx : Context) (d : Declarator) (s : Scope) → erased_declarator (declarator_of k cx d s).tree ≡ d
+declarator_same : (k : Kind) (cx : Context) (d : Declarator) (s : Scope) →
+    erased_declarator (declarator_of k cx d s).tree ≡ d
 declarator_same k cx d s = ap {B = Declarator} (λ v. record { name = d.name; value = v }) (initial_same d.value s)
 
 local_same : (cx : Context) (l : Local) (s : Scope) → erased_local (local_of cx l s).tree ≡ l
@@ -44,7 +45,8 @@ start_same : (cx : Context) (x : ForStart) (s : Scope) → erased_start (start_o
 start_same cx (start.Local l) s = ap start.Local (local_same cx l s)
 start_same cx (start.Simple x) s = ap start.Simple (simple_same x s)
 
-option_start_same : (cx : Context) (o : Option ForStart) (s : Scope) → option_map erased_start (option_start_of cx o s).tree ≡ o
+option_start_same : (cx : Context) (o : Option ForStart) (s : Scope) →
+    option_map erased_start (option_start_of cx o s).tree ≡ o
 option_start_same cx None s = refl
 option_start_same cx (Some x) s = ap Some (start_same cx x s)
 
@@ -88,20 +90,22 @@ readings_same (x ∷ xs) cx s = ap₂ (λ y ys. y ∷ ys) (x.1 cx s) (readings_s
 -- each form, of whose parts it is shown
 step : (y : Stat-F Shown) → Same (roll-Stat (map-Stat Shown Stat (λ x. x.0) y))
 step (layer.Block at xs) cx s =
-    at_form (layer.Block at (map (λ x. x.0) xs)) (form.Block at _) cx s _ (checked.rolls-Block at _) (tree.rolls-Block at _)
-    (ap (tree.Block at) (readings_same xs cx (entered s)))
-step (layer.Empty at) cx s = at_form (layer.Empty at) (form.Empty at) cx s _ (checked.rolls-Empty at) (tree.rolls-Empty at) refl
+    at_form (layer.Block at (map (λ x. x.0) xs)) (form.Block at _) cx s _ (checked.rolls-Block at _)
+    (tree.rolls-Block at _) (ap (tree.Block at) (readings_same xs cx (entered s)))
+step (layer.Empty at) cx s =
+    at_form (layer.Empty at) (form.Empty at) cx s _ (checked.rolls-Empty at) (tree.rolls-Empty at) refl
 step (layer.Local l) cx s =
-    at_form (layer.Local l) (form.Local _) cx s _ (checked.rolls-Local _) (tree.rolls-Local l) (ap tree.Local (local_same cx l s))
+    at_form (layer.Local l) (form.Local _) cx s _ (checked.rolls-Local _) (tree.rolls-Local l)
+    (ap tree.Local (local_same cx l s))
 step (layer.Simple x) cx s =
-    at_form (layer.Simple x) (form.Simple _) cx s _ (checked.rolls-Simple _) (tree.rolls-Simple x) (ap tree.Simple (simple_same x s))
+    at_form (layer.Simple x) (form.Simple _) cx s _ (checked.rolls-Simple _) (tree.rolls-Simple x)
+    (ap tree.Simple (simple_same x s))
 step (layer.If at e x None) cx s =
-    at_form (layer.If at e x.0 None) (form.If at _ _ None) cx s _ (checked.rolls-If at _ _ None) (tree.rolls-If at e x.0 None)
-    (ap₂ (λ t u. tree.If at t u None) (expr_same e s) (x.1 cx (entered s)))
+    at_form (layer.If at e x.0 None) (form.If at _ _ None) cx s _ (checked.rolls-If at _ _ None)
+    (tree.rolls-If at e x.0 None) (ap₂ (λ t u. tree.If at t u None) (expr_same e s) (x.1 cx (entered s)))
 step (layer.If at e x (Some y)) cx s =
     at_form (layer.If at e x.0 (Some y.0)) (form.If at _ _ (Some _)) cx s _ (checked.rolls-If at _ _ (Some _))
-    (tree.rolls-If at e x.0 (Some y.0))
-    (rw (expr_same e s, x.1 cx (entered s), y.1 cx _) refl)
+    (tree.rolls-If at e x.0 (Some y.0)) (rw (expr_same e s, x.1 cx (entered s), y.1 cx _) refl)
 step (layer.While at e x) cx s =
     at_form (layer.While at e x.0) (form.While at _ _) cx s _ (checked.rolls-While at _ _) (tree.rolls-While at e x.0)
     (ap₂ (tree.While at) (expr_same e s) (x.1 (looped cx) (entered s)))
@@ -112,8 +116,11 @@ step (layer.For at begin e after x) cx s =
     let first = (option_start_of cx begin (entered s)).scope in
     at_form (layer.For at begin e after x.0) (form.For at _ _ _ _) cx s _ (checked.rolls-For at _ _ _ _)
     (tree.rolls-For at begin e after x.0)
-    (rw (option_start_same cx begin (entered s), option_same e first, step_same after first, x.1 (looped cx) (entered first)) refl)
-step (layer.Break at) cx s = at_form (layer.Break at) (form.Break at) cx s _ (checked.rolls-Break at) (tree.rolls-Break at) refl
+    (rw (option_start_same cx begin (entered s), option_same e first, step_same after first) (
+    rw (x.1 (looped cx) (entered first)) refl
+    ))
+step (layer.Break at) cx s =
+    at_form (layer.Break at) (form.Break at) cx s _ (checked.rolls-Break at) (tree.rolls-Break at) refl
 step (layer.Continue at) cx s =
     at_form (layer.Continue at) (form.Continue at) cx s _ (checked.rolls-Continue at) (tree.rolls-Continue at) refl
 step (layer.Return at e) cx s =

@@ -1,5 +1,4 @@
 -- The expression that a checked one is of.
-use Rattle.std.specs.Prelude.{List, map, Option}
 use Rattle.ooo_syntax.specs.declared.expr.Expr.{Expr}
 use Rattle.ooo_syntax.specs.declared.expr.Expr.TheVariants as expr
 use Rattle.ooo_checked.specs.declared.expr.CheckedExpr.{CheckedExpr, CheckedExpr-F, fold-CheckedExpr}

@@ -1,10 +1,6 @@
 -- The module that a checked one is of.
-use Rattle.std.specs.Prelude.{List, map, Option, option_map}
+use Rattle.std.specs.Prelude.{List, map, option_map}
 use Rattle.ooo_syntax.specs.declared.leaves.Word.{Word}
-use Rattle.ooo_syntax.specs.declared.expr.Expr.{Expr}
-use Rattle.ooo_syntax.specs.declared.stat.TimeForm.{TimeForm}
-use Rattle.ooo_syntax.specs.declared.stat.Event.{Event}
-use Rattle.ooo_syntax.specs.declared.stat.Stat.{Stat}
 use Rattle.ooo_syntax.specs.declared.module.Arg.{Arg}
 use Rattle.ooo_syntax.specs.declared.module.Arg.TheVariants as arg
 use Rattle.ooo_syntax.specs.declared.module.Constant.{Constant}

@@ -1,6 +1,5 @@
 -- The statement that a checked one is of.
-use Rattle.std.specs.Prelude.{List, map, Option, option_map}
-use Rattle.ooo_syntax.specs.declared.expr.Expr.{Expr}
+use Rattle.std.specs.Prelude.{map, option_map}
 use Rattle.ooo_syntax.specs.declared.stat.TimeForm.{TimeForm}
 use Rattle.ooo_syntax.specs.declared.stat.TimeForm.TheVariants as time
 use Rattle.ooo_syntax.specs.declared.stat.Event.{Event}
@@ -17,7 +16,6 @@ use Rattle.ooo_syntax.specs.declared.stat.ForStart.{ForStart}
 use Rattle.ooo_syntax.specs.declared.stat.ForStart.TheVariants as start
 use Rattle.ooo_syntax.specs.declared.stat.Stat.{Stat}
 use Rattle.ooo_syntax.specs.declared.stat.Stat.TheVariants as stat
-use Rattle.ooo_checked.specs.declared.expr.CheckedExpr.{CheckedExpr}
 use Rattle.ooo_checked.specs.declared.stat.CheckedTime.{CheckedTime}
 use Rattle.ooo_checked.specs.declared.stat.CheckedTime.TheVariants as checked_time
 use Rattle.ooo_checked.specs.declared.stat.CheckedEvent.{CheckedEvent}

@@ -1,5 +1,5 @@
 -- The text that a checked one is of.
-use Rattle.std.specs.Prelude.{List, map, Option, option_map}
+use Rattle.std.specs.Prelude.{map, Option, option_map}
 use Rattle.ooo_syntax.specs.declared.leaves.Word.{Word}
 use Rattle.ooo_syntax.specs.declared.unit.UnitItem.{UnitItem}
 use Rattle.ooo_syntax.specs.declared.unit.UnitItem.TheVariants as item

@@ -1,19 +1,24 @@
 //! Laws of what checked trees are without their additions. Each function does nothing, and its contract is the law.
 
-ghost use Rattle.ooo_erasure.specs.Laws.{ErasesExprs, ErasesSimples, ErasesStats};
+ghost use Rattle.ooo_erasure.specs.Laws.{CoversTexts, ErasesExprs, ErasesSimples, ErasesStats};
 
-/// What an expression is checked to be is, without its additions, the expression: in any scope, whether its names are
-/// known and its types right or not.
+/// An expression is what it is checked to be, without additions: in any scope, inside another expression or by itself,
+/// and as the right side of an assignment.
 pub fn exprs()
     ensures { ErasesExprs }
 {}
 
-/// The same of times, events, what is waited for, and simple statements.
+/// So are times, events, what is waited for, and simple statements.
 pub fn simples()
     ensures { ErasesSimples }
 {}
 
-/// The same of statements and bodies, in any context.
+/// So are statements and bodies, in any context.
 pub fn stats()
     ensures { ErasesStats }
+{}
+
+/// Each text is what some checked text is without additions, so no form of it is missed or taken for another.
+pub fn texts()
+    ensures { CoversTexts }
 {}

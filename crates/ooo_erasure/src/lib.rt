@@ -1,8 +1,10 @@
 //! What a checked text is without its additions: the tree of the grammar, with each name by its word alone.
 //!
-//! `erased_expr` of `specs/Exprs`, `erased_stat` of `Stats`, `erased_module` of `Modules` and `erased_unit` of `Units`
-//! say it of each type of ooo_checked. The laws say that an expression, a statement or a body is what its checked tree
-//! is without additions, in any scope: nothing of a text is lost or changed as its names are found and its types checked.
+//! `specs/Exprs` says it of expressions, `Stats` of statements, `Modules` of modules and their parts, and `Units` of whole
+//! texts. It is proved that an expression, a time, an event, a statement and a body are what they are checked to be,
+//! without additions, in any scope and context, whether their names are known and their types right or not; and that each
+//! text is what some checked text is without additions. The functions of `law` have these laws as their contracts: to
+//! cite one, call its function.
 #![tactic(auto)]
 
 pub mod law;
