@@ -1,4 +1,4 @@
--- The expression that a checked one is of.
+-- A checked expression without its additions: no kinds, and of each name its word.
 use Rattle.ooo_syntax.specs.declared.expr.Expr.{Expr}
 use Rattle.ooo_syntax.specs.declared.expr.Expr.TheVariants as expr
 use Rattle.ooo_checked.specs.declared.expr.CheckedExpr.{CheckedExpr, CheckedExpr-F, fold-CheckedExpr}

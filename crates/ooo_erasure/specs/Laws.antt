@@ -1,4 +1,4 @@
--- What is checked is of what it was checked from.
+-- A checked tree without its additions is the tree that was checked.
 use Rattle.std.specs.Prelude.{◌≡◌, List, map, Bool}
 use Rattle.ooo_syntax.specs.declared.expr.Expr.{Expr}
 use Rattle.ooo_syntax.specs.declared.stat.TimeForm.{TimeForm}

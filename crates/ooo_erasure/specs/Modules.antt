@@ -1,4 +1,4 @@
--- The module that a checked one is of.
+-- A checked module without its additions, and its members and their parts.
 use Rattle.std.specs.Prelude.{List, map, option_map}
 use Rattle.ooo_syntax.specs.declared.leaves.Word.{Word}
 use Rattle.ooo_syntax.specs.declared.module.Arg.{Arg}

@@ -1,4 +1,4 @@
--- The statement that a checked one is of.
+-- A checked statement without its additions, and a time, an event and what else a statement has.
 use Rattle.std.specs.Prelude.{map, option_map}
 use Rattle.ooo_syntax.specs.declared.stat.TimeForm.{TimeForm}
 use Rattle.ooo_syntax.specs.declared.stat.TimeForm.TheVariants as time

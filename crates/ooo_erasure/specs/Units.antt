@@ -1,4 +1,4 @@
--- The text that a checked one is of.
+-- A checked text without its additions.
 use Rattle.std.specs.Prelude.{map, Option, option_map}
 use Rattle.ooo_syntax.specs.declared.leaves.Word.{Word}
 use Rattle.ooo_syntax.specs.declared.unit.UnitItem.{UnitItem}
