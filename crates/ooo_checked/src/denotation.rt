@@ -61,10 +61,11 @@ pub enum Thing {
 
 /// What a name denotes: a thing, and its number among its like.
 ///
-/// Modules and constants of the file have their place among the declarations of the file; constants, channels, clocks
-/// and instances of `sc_main` their place among the declarations and bindings of `sc_main`; members their place among
-/// the names that the module declares; parameters of a constructor their place in its list. Parameters and locals of a
-/// function have a slot each: how many of its parameters and locals are known where it is declared.
+/// Modules and constants of the file have their place among the names that the file declares; constants, channels, clocks
+/// and instances of `sc_main` their place among the names that it declares; members their place among the names that the
+/// module declares; parameters of a constructor or of `sc_main` their place among its parameters. Parameters and locals of
+/// a function have a slot each: how many of its parameters and locals are known where it is declared. A name that its
+/// block declares already counts for no number.
 #[derive(Clone, Copy, Debug, PartialEq, Eq)]
 pub struct Denotation {
     pub thing: Thing,

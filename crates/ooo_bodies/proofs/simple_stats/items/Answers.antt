@@ -1,0 +1,15 @@
+use Rattle.std.proofs.Common.{List}
+use Rattle.ooo_syntax.specs.declared.stat.PrintItem.{PrintItem}
+use Rattle.ooo_checked.specs.Stats.{item_of}
+use Rattle.ooo_bodies.specs.Parts.{trees_step, notes_step}
+use Rattle.ooo_bodies.proofs.simple_stats.items.Goals as goal
+
+pub parts-preserved : goal.parts-preserved
+parts-preserved c =
+    let xs : List PrintItem = c.as_slice-e-items.result.now in record {
+      trees = trees_step (λ e. item_of e c.args.scopes.now) c.parts.all c.push.new.self xs c.parts.e-index
+          c.e-item.result c.in_ok-item.field-0 c.parts-test.true c.e-item.is c.in_ok-item.ensures.tree c.in_ok-push.ensures.ok
+          c.parts.invariant.trees;
+      notes = notes_step (λ e. item_of e c.args.scopes.now) c.args.notes.now c.parts.notes c.item.new.notes
+          xs c.parts.e-index c.e-item.result c.parts-test.true c.e-item.is c.in_ok-item.ensures.notes c.parts.invariant.notes;
+    }

@@ -1,0 +1,573 @@
+ghost use Rattle.std.specs.Prelude.{◌≡◌, None, IfOk, OnOk};
+ghost use Rattle.ooo_checked.specs.Exprs.{option_of, tree_of};
+ghost use Rattle.ooo_checked.specs.Scopes.{entered, left};
+ghost use Rattle.ooo_checked.specs.Stats.{declarator_of, declarators_of, do_of, else_of, for_of, head_notes};
+ghost use Rattle.ooo_checked.specs.Stats.{initial_of, inner, local_denotation, local_of, loop_notes, looped};
+ghost use Rattle.ooo_checked.specs.Stats.{option_notes, option_reading, option_start_of, return_notes, start_of};
+ghost use Rattle.ooo_checked.specs.Stats.{stat_of, stats_of, step_of, while_of};
+ghost use Rattle.ooo_bodies.specs.Noting.{noted};
+
+use crate::copies::{copy_word, discard, kind_written};
+use crate::exprs::{boxed, expr, right_side};
+use crate::notes::Notes;
+use crate::simple_stats::{option_expr, simple_stat};
+use ooo_checked::{
+    CheckedDeclarator, CheckedExpr, CheckedLocal, CheckedSimple, CheckedStart, CheckedStat,
+    Context, Denotation, Resolved, Thing, TypeBreach,
+};
+use ooo_lexer::Position;
+use ooo_scopes::Scopes;
+use ooo_syntax::{Declarator, Expr, ForStart, Local, Simple, Stat};
+use ooo_value::Kind;
+use sqlite_items::{Boxed, Items};
+use std::alloc::{AllocError, Global};
+
+// The initial value of a local, if it has one.
+fn initial(
+    alloc: Global,
+    e: &Option<Expr>,
+    scopes: &Scopes,
+    notes: &mut Notes,
+) -> Result<Option<CheckedExpr>, AllocError>
+    ensures tree { IfOk result (λ tree. tree ≡ tree_of (initial_of e.now scopes.now)) }
+    ensures notes { OnOk result (notes.new
+        ≡ noted notes.old (option_notes (initial_of e.now scopes.now))) }
+{
+    match e {
+        None => Ok(None),
+        Some(e) => {
+            let tree = right_side(alloc, e, scopes, notes)?;
+            Ok(Some(tree))
+        }
+    }
+}
+
+// A local as it is declared.
+fn local_denotation(kind: Kind, context: Context, scopes: &Scopes) -> Denotation
+    ensures { result ≡ local_denotation kind context scopes.now }
+{
+    Denotation {
+        thing: Thing::Local(kind),
+        number: scopes.size().saturating_sub(context.outside),
+    }
+}
+
+// A declarator.
+#[tactic(auto, using(crate::specs::Noting::noted_append, crate::specs::Parts::left_declared))]
+fn declarator(
+    alloc: Global,
+    kind: Kind,
+    context: Context,
+    declared: &Declarator,
+    scopes: &mut Scopes,
+    notes: &mut Notes,
+) -> Result<CheckedDeclarator, AllocError>
+    ensures tree { IfOk result (λ tree.
+        tree ≡ (declarator_of kind context declared.now scopes.old).tree) }
+    ensures scope { OnOk result (scopes.new
+        ≡ (declarator_of kind context declared.now scopes.old).scope) }
+    ensures notes { OnOk result (notes.new
+        ≡ noted notes.old (declarator_of kind context declared.now scopes.old).notes) }
+    ensures outer { OnOk result (left scopes.new ≡ left scopes.old) }
+{
+    let denotes = local_denotation(kind, context, scopes);
+    let is_again = scopes.is_declared_here(declared.name.name.as_bytes());
+    notes.breaks_when(is_again, TypeBreach::DeclaredTwice, declared.name.position);
+    let word = copy_word(alloc, &declared.name)?;
+    let value = initial(alloc, &declared.value, scopes, notes)?;
+    match scopes.declare(declared.name.name.as_bytes(), denotes) {
+        Ok(()) => {
+            let name = Resolved { word, denotes };
+            Ok(CheckedDeclarator { name, value })
+        }
+        Err(error) => {
+            discard(value);
+            Err(error)
+        }
+    }
+}
+
+// Declarators one after the other.
+fn declarators(
+    alloc: Global,
+    kind: Kind,
+    context: Context,
+    names: &Items<Declarator>,
+    scopes: &mut Scopes,
+    notes: &mut Notes,
+) -> Result<Items<CheckedDeclarator>, AllocError>
+    ensures trees { IfOk result (λ all.
+        all ≡ (declarators_of kind context names.now scopes.old).tree) }
+    ensures scope { OnOk result (scopes.new
+        ≡ (declarators_of kind context names.now scopes.old).scope) }
+    ensures notes { OnOk result (notes.new
+        ≡ noted notes.old (declarators_of kind context names.now scopes.old).notes) }
+    ensures outer { OnOk result (left scopes.new ≡ left scopes.old) }
+{
+    let mut all = Items::new(alloc);
+    'parts: for e in names.as_slice() {
+        all.push(declarator(alloc, kind, context, e, scopes, notes)?)?;
+    }
+    Ok(all)
+}
+
+// A declaration of locals.
+fn local(
+    alloc: Global,
+    context: Context,
+    local: &Local,
+    scopes: &mut Scopes,
+    notes: &mut Notes,
+) -> Result<CheckedLocal, AllocError>
+    ensures tree { IfOk result (λ tree. tree ≡ (local_of context local.now scopes.old).tree) }
+    ensures scope { OnOk result (scopes.new ≡ (local_of context local.now scopes.old).scope) }
+    ensures notes { OnOk result (notes.new
+        ≡ noted notes.old (local_of context local.now scopes.old).notes) }
+    ensures outer { OnOk result (left scopes.new ≡ left scopes.old) }
+{
+    let kind = kind_written(local.form.form);
+    let names = declarators(alloc, kind, context, &local.names, scopes, notes)?;
+    Ok(CheckedLocal {
+        form: local.form,
+        names,
+    })
+}
+
+// How a `for` begins.
+fn start(
+    alloc: Global,
+    context: Context,
+    begins: &ForStart,
+    scopes: &mut Scopes,
+    notes: &mut Notes,
+) -> Result<CheckedStart, AllocError>
+    ensures tree { IfOk result (λ tree. tree ≡ (start_of context begins.now scopes.old).tree) }
+    ensures scope { OnOk result (scopes.new ≡ (start_of context begins.now scopes.old).scope) }
+    ensures notes { OnOk result (notes.new
+        ≡ noted notes.old (start_of context begins.now scopes.old).notes) }
+    ensures outer { OnOk result (left scopes.new ≡ left scopes.old) }
+{
+    match begins {
+        ForStart::Local(names) => {
+            let names = local(alloc, context, names, scopes, notes)?;
+            Ok(CheckedStart::Local(names))
+        }
+        ForStart::Simple(statement) => {
+            let statement = simple_stat(alloc, statement, scopes, notes)?;
+            Ok(CheckedStart::Simple(statement))
+        }
+    }
+}
+
+// How a `for` begins, if it says so.
+fn option_start(
+    alloc: Global,
+    context: Context,
+    begins: &Option<ForStart>,
+    scopes: &mut Scopes,
+    notes: &mut Notes,
+) -> Result<Option<CheckedStart>, AllocError>
+    ensures tree { IfOk result (λ tree.
+        tree ≡ (option_start_of context begins.now scopes.old).tree) }
+    ensures scope { OnOk result (scopes.new
+        ≡ (option_start_of context begins.now scopes.old).scope) }
+    ensures notes { OnOk result (notes.new
+        ≡ noted notes.old (option_start_of context begins.now scopes.old).notes) }
+    ensures outer { OnOk result (left scopes.new ≡ left scopes.old) }
+{
+    match begins {
+        None => Ok(None),
+        Some(begins) => {
+            let begins = start(alloc, context, begins, scopes, notes)?;
+            Ok(Some(begins))
+        }
+    }
+}
+
+// What a `for` does after each turn, if it says so.
+fn step(
+    alloc: Global,
+    statement: &Option<Simple>,
+    scopes: &Scopes,
+    notes: &mut Notes,
+) -> Result<Option<CheckedSimple>, AllocError>
+    ensures tree { IfOk result (λ tree. tree ≡ (step_of statement.now scopes.now).tree) }
+    ensures notes { OnOk result (notes.new
+        ≡ noted notes.old (step_of statement.now scopes.now).notes) }
+{
+    match statement {
+        None => Ok(None),
+        Some(statement) => {
+            let statement = simple_stat(alloc, statement, scopes, notes)?;
+            Ok(Some(statement))
+        }
+    }
+}
+
+impl Notes {
+    // Notes a `break` or a `continue`.
+    fn leaves_loop(&mut self, context: Context, at: Position)
+        ensures { self.new ≡ noted self.old (loop_notes context at) }
+    {
+        self.breaks_when(!context.in_loop, TypeBreach::WrongKind, at);
+    }
+
+    // Notes a `return` with a value, or without one.
+    fn returns(&mut self, gives: Option<Kind>, value: &Option<Expr>, at: Position)
+        ensures { self.new ≡ noted self.old (return_notes gives value.now at) }
+    {
+        match (gives, value) {
+            (None, None) | (Some(_), Some(_)) => {}
+            _ => self.breaks(TypeBreach::WrongKind, at),
+        }
+    }
+}
+
+// Where the body of a loop stands.
+fn looped(context: Context) -> Context
+    ensures { result ≡ looped context }
+{
+    Context {
+        result: context.result,
+        outside: context.outside,
+        in_loop: true,
+    }
+}
+
+/// A statement, with what its names denote; what is noted of it is kept, and the names that it declares are known behind
+/// it.
+///
+/// # Errors
+///
+/// Only where memory runs out; what was noted until then is kept.
+#[cycle(stat)]
+#[tactic(auto, unfolding(ooo_checked::specs::Stats::stat_of), using(crate::specs::Noting::noted_append))]
+pub fn stat(
+    alloc: Global,
+    context: Context,
+    statement: &Stat,
+    scopes: &mut Scopes,
+    notes: &mut Notes,
+) -> Result<CheckedStat, AllocError>
+    ensures tree { IfOk result (λ tree. tree ≡ (stat_of statement.now context scopes.old).tree) }
+    ensures scope { OnOk result (scopes.new ≡ (stat_of statement.now context scopes.old).scope) }
+    ensures notes { OnOk result (notes.new
+        ≡ noted notes.old (stat_of statement.now context scopes.old).notes) }
+    ensures outer { OnOk result (left scopes.new ≡ left scopes.old) }
+{
+    match statement {
+        Stat::Block(at, body) => {
+            let body = block(alloc, context, body, scopes, notes)?;
+            Ok(CheckedStat::Block(*at, body))
+        }
+        Stat::Empty(at) => Ok(CheckedStat::Empty(*at)),
+        Stat::Local(names) => {
+            let names = local(alloc, context, names, scopes, notes)?;
+            Ok(CheckedStat::Local(names))
+        }
+        Stat::Simple(statement) => {
+            let statement = simple_stat(alloc, statement, scopes, notes)?;
+            Ok(CheckedStat::Simple(statement))
+        }
+        Stat::If(at, test, yes, no) => {
+            let test = boxed(alloc, test, scopes, notes)?;
+            let yes = inner(alloc, context, yes.get(), scopes, notes)?;
+            let no = otherwise(alloc, context, no, scopes, notes)?;
+            Ok(CheckedStat::If(*at, test.into_inner(), yes, no))
+        }
+        Stat::While(at, test, body) => {
+            while_stat(alloc, context, *at, body.get(), test, scopes, notes)
+        }
+        Stat::Do(at, body, test) => do_stat(alloc, context, *at, body.get(), test, scopes, notes),
+        Stat::For(at, begins, test, after, body) => {
+            for_stat(
+                alloc,
+                context,
+                *at,
+                begins,
+                test,
+                after,
+                body.get(),
+                scopes,
+                notes,
+            )
+        }
+        Stat::Break(at) => {
+            notes.leaves_loop(context, *at);
+            Ok(CheckedStat::Break(*at))
+        }
+        Stat::Continue(at) => {
+            notes.leaves_loop(context, *at);
+            Ok(CheckedStat::Continue(*at))
+        }
+        Stat::Return(at, value) => {
+            notes.returns(context.result, value, *at);
+            let value = option_expr(alloc, value, scopes, notes)?;
+            Ok(CheckedStat::Return(*at, value))
+        }
+    }
+}
+
+// The statements of a block, whose names are known in it alone.
+#[cycle(stat)]
+#[tactic(auto, unfolding(ooo_checked::specs::Stats::stat_of), using(crate::specs::Noting::noted_append))]
+fn block(
+    alloc: Global,
+    context: Context,
+    body: &Items<Stat>,
+    scopes: &mut Scopes,
+    notes: &mut Notes,
+) -> Result<Items<CheckedStat>, AllocError>
+    ensures trees { IfOk result (λ all.
+        all ≡ (stats_of body.now context (entered scopes.old)).tree) }
+    ensures scope { OnOk result (scopes.new
+        ≡ left (stats_of body.now context (entered scopes.old)).scope) }
+    ensures notes { OnOk result (notes.new
+        ≡ noted notes.old (stats_of body.now context (entered scopes.old)).notes) }
+    ensures outer { OnOk result (left scopes.new ≡ left scopes.old) }
+{
+    scopes.enter()?;
+    let all = stats(alloc, context, body, scopes, notes)?;
+    scopes.leave();
+    Ok(all)
+}
+
+/// The statements of a body one after the other, with what their names denote; what is noted of them is kept, and the
+/// names that they declare are known behind them.
+///
+/// # Errors
+///
+/// Only where memory runs out; what was noted until then is kept.
+#[cycle(stat)]
+#[tactic(auto, unfolding(ooo_checked::specs::Stats::stat_of), using(crate::specs::Noting::noted_append))]
+pub fn stats(
+    alloc: Global,
+    context: Context,
+    body: &Items<Stat>,
+    scopes: &mut Scopes,
+    notes: &mut Notes,
+) -> Result<Items<CheckedStat>, AllocError>
+    ensures trees { IfOk result (λ all. all ≡ (stats_of body.now context scopes.old).tree) }
+    ensures scope { OnOk result (scopes.new ≡ (stats_of body.now context scopes.old).scope) }
+    ensures notes { OnOk result (notes.new
+        ≡ noted notes.old (stats_of body.now context scopes.old).notes) }
+    ensures outer { OnOk result (left scopes.new ≡ left scopes.old) }
+{
+    let mut all = Items::new(alloc);
+    'parts: for e in body.as_slice() {
+        all.push(stat(alloc, context, e, scopes, notes)?)?;
+    }
+    Ok(all)
+}
+
+// A statement inside another, whose names are known in it alone.
+#[cycle(stat)]
+#[tactic(auto, unfolding(ooo_checked::specs::Stats::stat_of), using(crate::specs::Noting::noted_append))]
+fn inner(
+    alloc: Global,
+    context: Context,
+    statement: &Stat,
+    scopes: &mut Scopes,
+    notes: &mut Notes,
+) -> Result<Boxed<CheckedStat>, AllocError>
+    ensures tree { IfOk result (λ tree.
+        tree ≡ (inner (stat_of statement.now) context scopes.old).tree) }
+    ensures scope { OnOk result (scopes.new
+        ≡ (inner (stat_of statement.now) context scopes.old).scope) }
+    ensures notes { OnOk result (notes.new
+        ≡ noted notes.old (inner (stat_of statement.now) context scopes.old).notes) }
+    ensures outer { OnOk result (left scopes.new ≡ left scopes.old) }
+{
+    scopes.enter()?;
+    let tree = stat(alloc, context, statement, scopes, notes)?;
+    scopes.leave();
+    Boxed::new(alloc, tree)
+}
+
+// The statement after `else`, if there is one.
+#[cycle(stat)]
+#[tactic(auto, unfolding(ooo_checked::specs::Stats::stat_of), using(crate::specs::Noting::noted_append))]
+fn otherwise(
+    alloc: Global,
+    context: Context,
+    no: &Option<Boxed<Stat>>,
+    scopes: &mut Scopes,
+    notes: &mut Notes,
+) -> Result<Option<Boxed<CheckedStat>>, AllocError>
+    ensures tree { IfOk result (λ tree.
+        tree ≡ (else_of (option_reading no.now) context scopes.old).tree) }
+    ensures scope { OnOk result (scopes.new
+        ≡ (else_of (option_reading no.now) context scopes.old).scope) }
+    ensures notes { OnOk result (notes.new
+        ≡ noted notes.old (else_of (option_reading no.now) context scopes.old).notes) }
+    ensures outer { OnOk result (left scopes.new ≡ left scopes.old) }
+{
+    match no {
+        None => Ok(None),
+        Some(statement) => {
+            let tree = inner(alloc, context, statement.get(), scopes, notes)?;
+            Ok(Some(tree))
+        }
+    }
+}
+
+// `while`
+#[cycle(stat)]
+#[tactic(auto, unfolding(ooo_checked::specs::Stats::stat_of), using(crate::specs::Noting::noted_append))]
+fn while_stat(
+    alloc: Global,
+    context: Context,
+    at: Position,
+    body: &Stat,
+    test: &Expr,
+    scopes: &mut Scopes,
+    notes: &mut Notes,
+) -> Result<CheckedStat, AllocError>
+    ensures tree { IfOk result (λ tree.
+        tree ≡ (while_of at test.now (stat_of body.now) context scopes.old).tree) }
+    ensures scope { OnOk result (scopes.new
+        ≡ (while_of at test.now (stat_of body.now) context scopes.old).scope) }
+    ensures notes { OnOk result (notes.new
+        ≡ noted notes.old (while_of at test.now (stat_of body.now) context scopes.old).notes) }
+    ensures outer { OnOk result (left scopes.new ≡ left scopes.old) }
+{
+    let test = boxed(alloc, test, scopes, notes)?;
+    let body = inner(alloc, looped(context), body, scopes, notes)?;
+    Ok(CheckedStat::While(at, test.into_inner(), body))
+}
+
+// `do`
+#[cycle(stat)]
+#[tactic(auto, unfolding(ooo_checked::specs::Stats::stat_of), using(crate::specs::Noting::noted_append))]
+fn do_stat(
+    alloc: Global,
+    context: Context,
+    at: Position,
+    body: &Stat,
+    test: &Expr,
+    scopes: &mut Scopes,
+    notes: &mut Notes,
+) -> Result<CheckedStat, AllocError>
+    ensures tree { IfOk result (λ tree.
+        tree ≡ (do_of at (stat_of body.now) test.now context scopes.old).tree) }
+    ensures scope { OnOk result (scopes.new
+        ≡ (do_of at (stat_of body.now) test.now context scopes.old).scope) }
+    ensures notes { OnOk result (notes.new
+        ≡ noted notes.old (do_of at (stat_of body.now) test.now context scopes.old).notes) }
+    ensures outer { OnOk result (left scopes.new ≡ left scopes.old) }
+{
+    let body = inner(alloc, looped(context), body, scopes, notes)?;
+    let test = expr(alloc, test, scopes, notes)?;
+    Ok(CheckedStat::Do(at, body, test))
+}
+
+// What stands in the parentheses of a `for`.
+#[derive(Drop)]
+struct ForHead {
+    begins: Option<CheckedStart>,
+    test: Option<CheckedExpr>,
+    after: Option<CheckedSimple>,
+}
+
+// What stands in the parentheses of a `for`, read in the scope that its block begins with.
+#[tactic(auto, using(crate::specs::Noting::noted_append))]
+fn for_head(
+    alloc: Global,
+    context: Context,
+    begins: &Option<ForStart>,
+    test: &Option<Expr>,
+    after: &Option<Simple>,
+    scopes: &mut Scopes,
+    notes: &mut Notes,
+) -> Result<Boxed<ForHead>, AllocError>
+    ensures begins { IfOk result (λ head.
+        head.begins ≡ (option_start_of context begins.now scopes.old).tree) }
+    ensures test { IfOk result (λ head. head.test ≡ tree_of
+        (option_of test.now (option_start_of context begins.now scopes.old).scope)) }
+    ensures after { IfOk result (λ head. head.after
+        ≡ (step_of after.now (option_start_of context begins.now scopes.old).scope).tree) }
+    ensures scope { OnOk result (scopes.new
+        ≡ (option_start_of context begins.now scopes.old).scope) }
+    ensures notes { OnOk result (notes.new
+        ≡ noted notes.old (head_notes context begins.now test.now after.now scopes.old)) }
+    ensures outer { OnOk result (left scopes.new ≡ left scopes.old) }
+{
+    let begins = boxed_start(alloc, context, begins, scopes, notes)?;
+    let test = boxed_option(alloc, test, scopes, notes)?;
+    let after = step(alloc, after, scopes, notes)?;
+    let head = ForHead {
+        begins: begins.into_inner(),
+        test: test.into_inner(),
+        after,
+    };
+    Boxed::new(alloc, head)
+}
+
+// How a `for` begins, on the heap.
+fn boxed_start(
+    alloc: Global,
+    context: Context,
+    begins: &Option<ForStart>,
+    scopes: &mut Scopes,
+    notes: &mut Notes,
+) -> Result<Boxed<Option<CheckedStart>>, AllocError>
+    ensures tree { IfOk result (λ tree.
+        tree ≡ (option_start_of context begins.now scopes.old).tree) }
+    ensures scope { OnOk result (scopes.new
+        ≡ (option_start_of context begins.now scopes.old).scope) }
+    ensures notes { OnOk result (notes.new
+        ≡ noted notes.old (option_start_of context begins.now scopes.old).notes) }
+    ensures outer { OnOk result (left scopes.new ≡ left scopes.old) }
+{
+    let begins = option_start(alloc, context, begins, scopes, notes)?;
+    Boxed::new(alloc, begins)
+}
+
+// An expression, if there is one, on the heap.
+fn boxed_option(
+    alloc: Global,
+    e: &Option<Expr>,
+    scopes: &Scopes,
+    notes: &mut Notes,
+) -> Result<Boxed<Option<CheckedExpr>>, AllocError>
+    ensures tree { IfOk result (λ tree. tree ≡ tree_of (option_of e.now scopes.now)) }
+    ensures notes { OnOk result (notes.new
+        ≡ noted notes.old (option_notes (option_of e.now scopes.now))) }
+{
+    let tree = option_expr(alloc, e, scopes, notes)?;
+    Boxed::new(alloc, tree)
+}
+
+// `for`
+#[cycle(stat)]
+#[tactic(auto, unfolding(ooo_checked::specs::Stats::stat_of), using(crate::specs::Noting::noted_append))]
+fn for_stat(
+    alloc: Global,
+    context: Context,
+    at: Position,
+    begins: &Option<ForStart>,
+    test: &Option<Expr>,
+    after: &Option<Simple>,
+    body: &Stat,
+    scopes: &mut Scopes,
+    notes: &mut Notes,
+) -> Result<CheckedStat, AllocError>
+    ensures tree { IfOk result (λ tree. tree
+        ≡ (for_of at begins.now test.now after.now (stat_of body.now) context scopes.old).tree) }
+    ensures scope { OnOk result (scopes.new
+        ≡ (for_of at begins.now test.now after.now (stat_of body.now) context scopes.old).scope) }
+    ensures notes { OnOk result (notes.new ≡ noted notes.old
+        (for_of at begins.now test.now after.now (stat_of body.now) context scopes.old).notes) }
+    ensures outer { OnOk result (left scopes.new ≡ left scopes.old) }
+{
+    scopes.enter()?;
+    let head = for_head(alloc, context, begins, test, after, scopes, notes)?;
+    let body = inner(alloc, looped(context), body, scopes, notes)?;
+    scopes.leave();
+    let ForHead {
+        begins,
+        test,
+        after,
+    } = head.into_inner();
+    Ok(CheckedStat::For(at, begins, test, after, body))
+}
