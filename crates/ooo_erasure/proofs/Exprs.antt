@@ -12,7 +12,7 @@ use Rattle.ooo_checked.specs.Exprs.{expr_of, exprs_of, expr_step, right_of, righ
 use Rattle.ooo_checked.specs.Notes.{Checked, trees}
 use Rattle.ooo_checked.specs.Scopes.{Scope}
 use Rattle.ooo_erasure.specs.Exprs.{erased_expr, erased_expr_step}
-use Rattle.ooo_erasure.proofs.Lists.{all_trees}
+use Rattle.ooo_erasure.specs.Parts.{all_trees}
 
 -- what an expression is in a scope
 abbrev Reading : Type 0

@@ -18,7 +18,7 @@ use Rattle.ooo_checked.specs.Stats.{time_of, event_of, events_of, awaited_of, is
 use Rattle.ooo_erasure.specs.Exprs.{erased_expr}
 use Rattle.ooo_erasure.specs.Stats.{erased_time, erased_event, erased_awaited, erased_target, erased_item, erased_simple}
 use Rattle.ooo_erasure.proofs.Exprs.{expr_same, exprs_same, option_same, right_same}
-use Rattle.ooo_erasure.proofs.Lists.{all_trees}
+use Rattle.ooo_erasure.specs.Parts.{all_trees}
 
 -- ---- times and events
 

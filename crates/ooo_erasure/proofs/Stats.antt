@@ -22,7 +22,7 @@ use Rattle.ooo_checked.specs.Stats.{Reading, initial_of, declarator_of, local_of
 use Rattle.ooo_erasure.specs.Exprs.{erased_expr}
 use Rattle.ooo_erasure.specs.Stats.{erased_declarator, erased_local, erased_start, erased_simple, erased_stat, erased_stat_step}
 use Rattle.ooo_erasure.proofs.Exprs.{expr_same, option_same, right_same}
-use Rattle.ooo_erasure.proofs.Lists.{ordered_trees}
+use Rattle.ooo_erasure.specs.Parts.{ordered_trees}
 use Rattle.ooo_erasure.proofs.Simples.{simple_same}
 
 -- ---- locals, and what stands in the parentheses of a `for`

@@ -1,4 +1,5 @@
 pub mod Exprs
+pub mod Parts
 pub mod Stats
 pub mod Modules
 pub mod Units

@@ -1,8 +1,6 @@
-pub mod Args
-pub mod Bodies
-pub mod Constructors
-pub mod Declarations
-pub mod Members
+pub mod Erasing
 pub mod Modules
 pub mod Processes
+pub mod Running
+pub mod Told
 pub mod Units

@@ -1,7 +1,16 @@
-//! What each name of a whole text denotes, and what is wrong with its names and types: the definition, over which no call
-//! is proved yet.
+//! Checks the names and types of a text: its tree with what each name denotes and the kind of each expression, or the
+//! breach that is told.
 //!
-//! `specs/Units` says it of a text, `Modules`, `Members` and `Constructors` of a module and its parts, `Processes` which
-//! functions may wait and which calls lie on a cycle, `Declarations` what a member declares, `Args` what a constant
-//! expression is and which arguments a thing takes. Expressions and statements are those of ooo_checked.
+//! Proved: [`check`] answers a text where the definition (`specs/Units`) has no breach, and lends the text's tree as the
+//! definition says; else it answers the breach that stands first in the text, and of those at one place the first of
+//! [`ooo_checked::TypeBreach`] (`specs/Told`); or memory runs out. `specs/Processes` says which functions may wait and
+//! which calls lie on a cycle. Module `law`: what is lent is, without its additions, the text that was given.
 #![tactic(auto)]
+
+mod checked;
+pub mod law;
+mod modules;
+mod processes;
+mod units;
+
+pub use checked::{Checked, check};

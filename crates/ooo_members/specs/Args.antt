@@ -1,5 +1,6 @@
 -- Constant expressions, and the arguments of channels, instances and initialisers.
-use Rattle.std.specs.Prelude.{ℕ, ◌-◌, ◌==◌, List, [], ◌∷◌, ◌++◌, map, Bool, true, false, not, ◌&&◌}
+use Rattle.std.specs.Prelude.{ℕ, ◌==◌, List, [], ◌∷◌, ◌++◌, length, map, Bool, true, false, not, ◌&&◌, Option, Some, None}
+use Rattle.std.specs.List.{list_all}
 use Rattle.ooo_syntax.specs.declared.expr.Expr.{Expr}
 use Rattle.ooo_syntax.specs.declared.stat.TimeForm.{TimeForm}
 use Rattle.ooo_syntax.specs.declared.stat.TimeForm.TheVariants as time
@@ -56,11 +57,14 @@ args_of xs s = map (λ x. arg_of x s) xs
 
 -- ---- forms of arguments
 
+-- the argument is a value
+abbrev pub is_value : Arg → Bool
+is_value (arg.Value e) = true
+is_value _ = false
+
 -- all are values, and there are as many
 abbrev pub are_values : ℕ → List Arg → Bool
-are_values n [] = n == 0
-are_values n (arg.Value e ∷ xs) = not (n == 0) && are_values (n - 1) xs
-are_values n (x ∷ xs) = false
+are_values n xs = (length xs == n) && list_all is_value xs
 
 -- a text at most
 abbrev pub is_text_form : List Arg → Bool
@@ -81,10 +85,15 @@ abbrev pub is_child_form : ℕ → List Arg → Bool
 is_child_form params (arg.Text t ∷ xs) = are_values params xs
 is_child_form params _ = false
 
--- the arguments are of the form of the thing, where an instance's module has this many parameters
-abbrev pub is_form_of : Thing → ℕ → List Arg → Bool
+-- arguments of an instance of a module whose constructor has so many parameters; of an unknown module they are right
+abbrev pub is_instance_form : (params : Option ℕ) → List Arg → Bool
+is_instance_form None xs = true
+is_instance_form (Some n) xs = is_child_form n xs
+
+-- the arguments are of the form of the thing, where the constructor of an instance's module has so many parameters
+abbrev pub is_form_of : Thing → (params : Option ℕ) → List Arg → Bool
 is_form_of (thing.Fifo k) params xs = is_size_form xs
 is_form_of (thing.Variable k) params xs = are_values 1 xs
 is_form_of (thing.Fixed k) params xs = are_values 1 xs
-is_form_of (thing.Instance m) params xs = is_child_form params xs
+is_form_of (thing.Instance m) params xs = is_instance_form params xs
 is_form_of _ params xs = is_text_form xs

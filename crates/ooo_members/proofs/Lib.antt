@@ -1,0 +1,3 @@
+pub mod FunctionLists
+pub mod FunctionNotes
+pub mod Zipped

@@ -1,0 +1,447 @@
+ghost use Rattle.std.specs.Prelude.{◌≡◌, ◌++◌, map, IfOk, OnOk};
+ghost use Rattle.ooo_syntax.specs.declared.module.Field.{Field};
+ghost use Rattle.ooo_syntax.specs.declared.module.Part.{Part};
+ghost use Rattle.ooo_checked.specs.Notes.{all_notes, trees};
+ghost use Rattle.ooo_bodies.specs.Noting.{noted};
+ghost use Rattle.ooo_members.specs.Members.{channels_of, child_of, children_of, constant_named, field_form_of, field_of};
+ghost use Rattle.ooo_members.specs.Members.{fields_of, functions_in, functions_of, has_params, lacks_arguments, member_of};
+ghost use Rattle.ooo_members.specs.Members.{members_of, names_of, option_args, params_of_module, part_notes, part_of};
+ghost use Rattle.ooo_members.specs.Members.{parts_of};
+
+use crate::args::{args, constant, is_form_of};
+use crate::bodies::known_function;
+use crate::constructors::constructor;
+use crate::declarations::{channel_thing, instance_thing, is_module};
+use crate::known::{FunctionFacts, ModuleFacts, Sofar};
+use ooo_bodies::copies::{copy_word, kind_written, resolve};
+use ooo_bodies::notes::Notes;
+use ooo_checked::{
+    CheckedArg, CheckedChannels, CheckedChildren, CheckedConstant, CheckedField, CheckedFieldForm,
+    CheckedFields, CheckedMember, CheckedPart, CheckedPorts, Resolved, Thing, TypeBreach,
+};
+use ooo_scopes::Scopes;
+use ooo_syntax::{Arg, Channels, Children, Constant, Field, FieldForm, Fields, Member, Part, Word};
+use sqlite_items::Items;
+use std::alloc::{AllocError, Global};
+
+/// A constant with its name.
+///
+/// # Errors
+///
+/// Only where memory runs out; what was noted until then is kept.
+pub fn constant_named(
+    alloc: Global,
+    name: Resolved,
+    declared: &Constant,
+    scopes: &Scopes,
+    notes: &mut Notes,
+) -> Result<CheckedConstant, AllocError>
+    ensures tree { IfOk result (λ tree.
+        tree ≡ (constant_named name declared.now scopes.now).tree) }
+    ensures notes { OnOk result (notes.new
+        ≡ noted notes.old (constant_named name declared.now scopes.now).notes) }
+{
+    let value = constant(alloc, &declared.value, scopes, notes)?;
+    Ok(CheckedConstant {
+        is_static: declared.is_static,
+        form: declared.form,
+        name,
+        value,
+    })
+}
+
+// What stands behind a field's name.
+fn field_form(
+    alloc: Global,
+    form: &FieldForm,
+    scopes: &Scopes,
+    notes: &mut Notes,
+) -> Result<CheckedFieldForm, AllocError>
+    ensures tree { IfOk result (λ tree. tree ≡ (field_form_of form.now scopes.now).tree) }
+    ensures notes { OnOk result (notes.new
+        ≡ noted notes.old (field_form_of form.now scopes.now).notes) }
+{
+    match form {
+        FieldForm::Plain => Ok(CheckedFieldForm::Plain),
+        FieldForm::Length(e) => {
+            let length = constant(alloc, e, scopes, notes)?;
+            Ok(CheckedFieldForm::Length(length))
+        }
+        FieldForm::Value(e) => {
+            let value = constant(alloc, e, scopes, notes)?;
+            Ok(CheckedFieldForm::Value(value))
+        }
+    }
+}
+
+// A field.
+fn field(
+    alloc: Global,
+    field: &Field,
+    scopes: &Scopes,
+    notes: &mut Notes,
+) -> Result<CheckedField, AllocError>
+    ensures tree { IfOk result (λ tree. tree ≡ (field_of field.now scopes.now).tree) }
+    ensures notes { OnOk result (notes.new
+        ≡ noted notes.old (field_of field.now scopes.now).notes) }
+{
+    let name = resolve(alloc, scopes, &field.name)?;
+    let form = field_form(alloc, &field.form, scopes, notes)?;
+    Ok(CheckedField { name, form })
+}
+
+// A declaration of fields.
+fn fields(
+    alloc: Global,
+    fields: &Fields,
+    scopes: &Scopes,
+    notes: &mut Notes,
+) -> Result<CheckedFields, AllocError>
+    ensures tree { IfOk result (λ tree. tree ≡ (fields_of fields.now scopes.now).tree) }
+    ensures notes { OnOk result (notes.new
+        ≡ noted notes.old (fields_of fields.now scopes.now).notes) }
+{
+    let all = field_list(alloc, &fields.fields, scopes, notes)?;
+    Ok(CheckedFields {
+        is_const: fields.is_const,
+        form: fields.form,
+        fields: all,
+    })
+}
+
+// Fields one after the other.
+fn field_list(
+    alloc: Global,
+    fields: &Items<Field>,
+    scopes: &Scopes,
+    notes: &mut Notes,
+) -> Result<Items<CheckedField>, AllocError>
+    ensures trees { IfOk result (λ all.
+        all ≡ trees (map (λ (x : Field). field_of x scopes.now) fields.now)) }
+    ensures notes { OnOk result (notes.new ≡ noted notes.old
+        (all_notes (map (λ (x : Field). field_of x scopes.now) fields.now))) }
+{
+    let mut all = Items::new(alloc);
+    'parts: for e in fields.as_slice() {
+        all.push(field(alloc, e, scopes, notes)?)?;
+    }
+    Ok(all)
+}
+
+// Names with what they denote.
+fn names(alloc: Global, words: &Items<Word>, scopes: &Scopes) -> Result<Items<Resolved>, AllocError>
+    ensures { IfOk result (λ all. all ≡ names_of words.now scopes.now) }
+{
+    let mut all = Items::new(alloc);
+    'parts: for e in words.as_slice() {
+        all.push(resolve(alloc, scopes, e)?)?;
+    }
+    Ok(all)
+}
+
+/// The arguments of a part that is this thing, if it has some, where an instance's module has this many parameters.
+///
+/// # Errors
+///
+/// Only where memory runs out; what was noted until then is kept.
+#[tactic(auto, using(ooo_bodies::specs::Noting::noted_append))]
+pub fn option_args(
+    alloc: Global,
+    thing: Thing,
+    params: Option<usize>,
+    word: &Word,
+    given: &Option<Items<Arg>>,
+    scopes: &Scopes,
+    notes: &mut Notes,
+) -> Result<Option<Items<CheckedArg>>, AllocError>
+    ensures tree { IfOk result (λ tree. tree ≡ option_args given.now scopes.now) }
+    ensures notes { OnOk result (notes.new
+        ≡ noted notes.old (part_notes thing params word.now given.now scopes.now)) }
+{
+    match given {
+        None => Ok(None),
+        Some(given) => {
+            let has_form = is_form_of(thing, params, given.as_slice());
+            notes.breaks_when(!has_form, TypeBreach::WrongCount, word.position);
+            let all = args(alloc, given, scopes, notes)?;
+            Ok(Some(all))
+        }
+    }
+}
+
+// A part that is this thing.
+fn part(
+    alloc: Global,
+    thing: Thing,
+    params: Option<usize>,
+    part: &Part,
+    scopes: &Scopes,
+    notes: &mut Notes,
+) -> Result<CheckedPart, AllocError>
+    ensures tree { IfOk result (λ tree.
+        tree ≡ (part_of thing params part.now scopes.now).tree) }
+    ensures notes { OnOk result (notes.new
+        ≡ noted notes.old (part_of thing params part.now scopes.now).notes) }
+{
+    let name = resolve(alloc, scopes, &part.name)?;
+    let args = option_args(alloc, thing, params, &part.name, &part.args, scopes, notes)?;
+    Ok(CheckedPart { name, args })
+}
+
+// Parts that are this thing.
+fn parts(
+    alloc: Global,
+    thing: Thing,
+    params: Option<usize>,
+    parts: &Items<Part>,
+    scopes: &Scopes,
+    notes: &mut Notes,
+) -> Result<Items<CheckedPart>, AllocError>
+    ensures trees { IfOk result (λ all.
+        all ≡ trees (parts_of thing params parts.now scopes.now)) }
+    ensures notes { OnOk result (notes.new
+        ≡ noted notes.old (all_notes (parts_of thing params parts.now scopes.now))) }
+{
+    let mut all = Items::new(alloc);
+    'parts: for e in parts.as_slice() {
+        all.push(part(alloc, thing, params, e, scopes, notes)?)?;
+    }
+    Ok(all)
+}
+
+// A declaration of channels.
+fn channels(
+    alloc: Global,
+    channels: &Channels,
+    scopes: &Scopes,
+    notes: &mut Notes,
+) -> Result<CheckedChannels, AllocError>
+    ensures tree { IfOk result (λ tree. tree ≡ (channels_of channels.now scopes.now).tree) }
+    ensures notes { OnOk result (notes.new
+        ≡ noted notes.old (channels_of channels.now scopes.now).notes) }
+{
+    let thing = channel_thing(channels.channel, kind_written(channels.form.form));
+    let all = parts(alloc, thing, None, &channels.parts, scopes, notes)?;
+    Ok(CheckedChannels {
+        channel: channels.channel,
+        form: channels.form,
+        parts: all,
+    })
+}
+
+/// How many parameters a module's constructor has, if the thing is a module.
+pub fn params_of_module(thing: Thing) -> Option<usize>
+    ensures { result ≡ params_of_module thing }
+{
+    match thing {
+        Thing::Module(params) => Some(params),
+        _ => None,
+    }
+}
+
+// Whether there are parameters.
+fn has_params(params: Option<usize>) -> bool
+    ensures { result ≡ has_params params }
+{
+    match params {
+        Some(params) => params != 0,
+        None => false,
+    }
+}
+
+// Whether a child lacks its arguments.
+fn lacks_arguments(initialised: &Scopes, params: Option<usize>, part: &Part) -> bool
+    ensures { result ≡ lacks_arguments initialised.now params part.now }
+{
+    has_params(params)
+        && part.args.is_none()
+        && !initialised.is_declared_here(part.name.name.as_bytes())
+}
+
+// A child that is this thing, whose module's constructor has so many parameters.
+#[tactic(auto, using(ooo_bodies::specs::Noting::noted_append))]
+fn child(
+    alloc: Global,
+    initialised: &Scopes,
+    thing: Thing,
+    params: Option<usize>,
+    declared: &Part,
+    scopes: &Scopes,
+    notes: &mut Notes,
+) -> Result<CheckedPart, AllocError>
+    ensures tree { IfOk result (λ tree.
+        tree ≡ (child_of initialised.now thing params declared.now scopes.now).tree) }
+    ensures notes { OnOk result (notes.new ≡ noted notes.old
+        (child_of initialised.now thing params declared.now scopes.now).notes) }
+{
+    let tree = part(alloc, thing, params, declared, scopes, notes)?;
+    let is_lacking = lacks_arguments(initialised, params, declared);
+    notes.breaks_when(is_lacking, TypeBreach::WrongCount, declared.name.position);
+    Ok(tree)
+}
+
+// Children that are this thing one after the other.
+fn child_list(
+    alloc: Global,
+    initialised: &Scopes,
+    thing: Thing,
+    params: Option<usize>,
+    parts: &Items<Part>,
+    scopes: &Scopes,
+    notes: &mut Notes,
+) -> Result<Items<CheckedPart>, AllocError>
+    ensures trees { IfOk result (λ all. all ≡ trees (map
+        (λ (p : Part). child_of initialised.now thing params p scopes.now) parts.now)) }
+    ensures notes { OnOk result (notes.new ≡ noted notes.old (all_notes (map
+        (λ (p : Part). child_of initialised.now thing params p scopes.now) parts.now))) }
+{
+    let mut all = Items::new(alloc);
+    'parts: for e in parts.as_slice() {
+        all.push(child(alloc, initialised, thing, params, e, scopes, notes)?)?;
+    }
+    Ok(all)
+}
+
+// Children of a module.
+#[tactic(auto, using(ooo_bodies::specs::Noting::noted_append))]
+fn children(
+    alloc: Global,
+    initialised: &Scopes,
+    children: &Children,
+    scopes: &Scopes,
+    notes: &mut Notes,
+) -> Result<CheckedChildren, AllocError>
+    ensures tree { IfOk result (λ tree.
+        tree ≡ (children_of initialised.now children.now scopes.now).tree) }
+    ensures notes { OnOk result (notes.new
+        ≡ noted notes.old (children_of initialised.now children.now scopes.now).notes) }
+{
+    let module_name = resolve(alloc, scopes, &children.module_name)?;
+    let thing = module_name.denotes.thing;
+    notes.name(thing, is_module(thing), children.module_name.position);
+    let child_thing = instance_thing(module_name.denotes, scopes);
+    let params = params_of_module(thing);
+    let parts = &children.parts;
+    let parts = child_list(
+        alloc,
+        initialised,
+        child_thing,
+        params,
+        parts,
+        scopes,
+        notes,
+    )?;
+    Ok(CheckedChildren { module_name, parts })
+}
+
+/// A member, behind others. A function is added to those that are known, with what has to be known of it.
+///
+/// # Errors
+///
+/// Only where memory runs out; what was noted until then is kept.
+#[tactic(auto, using(ooo_bodies::specs::Noting::noted_append))]
+pub fn member(
+    alloc: Global,
+    modules: &[Option<ModuleFacts>],
+    module_name: &[u8],
+    initialised: &Scopes,
+    declared: &Member,
+    scopes: &mut Scopes,
+    sofar: &mut Sofar,
+    functions: &mut Items<FunctionFacts>,
+    notes: &mut Notes,
+) -> Result<CheckedMember, AllocError>
+    ensures tree { IfOk result (λ tree. tree ≡ (member_of modules.now module_name.now
+        initialised.now scopes.old declared.now sofar.old).tree) }
+    ensures behind { OnOk result (sofar.new ≡ (member_of modules.now module_name.now
+        initialised.now scopes.old declared.now sofar.old).behind) }
+    ensures notes { OnOk result (notes.new ≡ noted notes.old (member_of modules.now
+        module_name.now initialised.now scopes.old declared.now sofar.old).notes) }
+    ensures scope { OnOk result (scopes.new ≡ scopes.old) }
+    ensures functions { OnOk result (functions.new
+        ≡ functions.old ++ functions_in declared.now scopes.old) }
+{
+    match declared {
+        Member::Public => Ok(CheckedMember::Public),
+        Member::Constant(c) => {
+            let name = resolve(alloc, scopes, &c.name)?;
+            let c = constant_named(alloc, name, c, scopes, notes)?;
+            Ok(CheckedMember::Constant(c))
+        }
+        Member::HasProcess(word) => {
+            let is_named_so = word.name.as_bytes() == module_name;
+            notes.breaks_when(!is_named_so, TypeBreach::WrongKind, word.position);
+            Ok(CheckedMember::HasProcess(copy_word(alloc, word)?))
+        }
+        Member::Fields(f) => {
+            let f = fields(alloc, f, scopes, notes)?;
+            Ok(CheckedMember::Fields(f))
+        }
+        Member::Ports(p) => Ok(CheckedMember::Ports(CheckedPorts {
+            port: p.port,
+            form: p.form,
+            names: names(alloc, &p.names, scopes)?,
+        })),
+        Member::Clocks(words) => Ok(CheckedMember::Clocks(names(alloc, words, scopes)?)),
+        Member::Channels(c) => {
+            let c = channels(alloc, c, scopes, notes)?;
+            Ok(CheckedMember::Channels(c))
+        }
+        Member::Events(words) => Ok(CheckedMember::Events(names(alloc, words, scopes)?)),
+        Member::Children(c) => {
+            let c = children(alloc, initialised, c, scopes, notes)?;
+            Ok(CheckedMember::Children(c))
+        }
+        Member::Function(f) => {
+            let f = known_function(alloc, f, scopes, functions, notes)?;
+            Ok(CheckedMember::Function(f))
+        }
+        Member::Constructor(c) => {
+            let c = constructor(alloc, modules, module_name, c, scopes, sofar, notes)?;
+            Ok(CheckedMember::Constructor(c))
+        }
+    }
+}
+
+/// Members one after the other.
+///
+/// # Errors
+///
+/// Only where memory runs out; what was noted until then is kept.
+pub fn members(
+    alloc: Global,
+    modules: &[Option<ModuleFacts>],
+    module_name: &[u8],
+    initialised: &Scopes,
+    members: &Items<Member>,
+    scopes: &mut Scopes,
+    sofar: &mut Sofar,
+    functions: &mut Items<FunctionFacts>,
+    notes: &mut Notes,
+) -> Result<Items<CheckedMember>, AllocError>
+    ensures trees { IfOk result (λ all. all ≡ (members_of modules.now module_name.now
+        initialised.now scopes.old members.now sofar.old).tree) }
+    ensures behind { OnOk result (sofar.new ≡ (members_of modules.now module_name.now
+        initialised.now scopes.old members.now sofar.old).behind) }
+    ensures notes { OnOk result (notes.new ≡ noted notes.old (members_of modules.now
+        module_name.now initialised.now scopes.old members.now sofar.old).notes) }
+    ensures scope { OnOk result (scopes.new ≡ scopes.old) }
+    ensures functions { OnOk result (functions.new
+        ≡ functions.old ++ functions_of members.now scopes.old) }
+{
+    let mut all = Items::new(alloc);
+    'parts: for e in members.as_slice() {
+        all.push(member(
+            alloc,
+            modules,
+            module_name,
+            initialised,
+            e,
+            scopes,
+            sofar,
+            functions,
+            notes,
+        )?)?;
+    }
+    Ok(all)
+}
