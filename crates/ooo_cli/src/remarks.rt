@@ -1,4 +1,7 @@
-use ooo_messages::{lexer_breach, lexer_reason, parser_breach, parser_reason, words_reason};
+use ooo_messages::{
+    lexer_breach, lexer_reason, parser_breach, parser_reason, types_breach, types_reason,
+    words_reason,
+};
 use ooo_sim::{MOST_BYTES, Status};
 use ooo_words::{Command, WordsError, read};
 use std::alloc::Global;
@@ -97,6 +100,9 @@ fn layer_reason(layer: &str, name: &str) -> Option<&'static str> {
     }
     if layer == "parser" {
         return Some(parser_reason(parser_breach(name)?));
+    }
+    if layer == "types" {
+        return Some(types_reason(types_breach(name)?));
     }
     None
 }

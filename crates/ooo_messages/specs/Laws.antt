@@ -4,7 +4,9 @@ use Rattle.ooo_lexer.specs.Breaches.{name_of}
 use Rattle.ooo_lexer.specs.declared.breach.LexBreach.{LexBreach}
 use Rattle.ooo_syntax.specs.Breaches.{name_of as parser_name_of}
 use Rattle.ooo_syntax.specs.declared.error.ParseBreach.{ParseBreach}
-use Rattle.ooo_messages.specs.Reasons.{breach_named, parse_breach_named}
+use Rattle.ooo_checked.specs.Breaches.{name_of as type_name_of}
+use Rattle.ooo_checked.specs.declared.breach.TypeBreach.{TypeBreach}
+use Rattle.ooo_messages.specs.Reasons.{breach_named, parse_breach_named, type_breach_named}
 
 -- each breach of the lexer is found by its name
 abbrev pub IsFoundByName : Type 0
@@ -13,3 +15,7 @@ IsFoundByName = (breach : LexBreach) → breach_named (name_of breach) ≡ Some 
 -- so is each breach of the parser
 abbrev pub IsParseBreachFound : Type 0
 IsParseBreachFound = (breach : ParseBreach) → parse_breach_named (parser_name_of breach) ≡ Some breach
+
+-- so is each breach of names and types
+abbrev pub IsTypeBreachFound : Type 0
+IsTypeBreachFound = (breach : TypeBreach) → type_breach_named (type_name_of breach) ≡ Some breach

@@ -7,6 +7,9 @@ use Rattle.ooo_lexer.specs.declared.breach.LexBreach.TheVariants as lexer
 use Rattle.ooo_syntax.specs.Breaches.{name_of as parser_name_of}
 use Rattle.ooo_syntax.specs.declared.error.ParseBreach.{ParseBreach}
 use Rattle.ooo_syntax.specs.declared.error.ParseBreach.TheVariants as parser
+use Rattle.ooo_checked.specs.Breaches.{name_of as type_name_of}
+use Rattle.ooo_checked.specs.declared.breach.TypeBreach.{TypeBreach}
+use Rattle.ooo_checked.specs.declared.breach.TypeBreach.TheVariants as types
 use Rattle.ooo_words.specs.declared.refused.WordsBreach.{WordsBreach}
 use Rattle.ooo_words.specs.declared.refused.WordsBreach.TheVariants as words
 
@@ -34,6 +37,19 @@ parser_reason parser.Syntax = codes "no text of the grammar goes on with this"
 parser_reason parser.TooDeep = codes "this stands too deep, or is one operator too many"
 parser_reason parser.NotInProfile = codes "C++ or SystemC has this here, but the simulator doesn't take it"
 
+-- what is wrong with the names and types of a text that the grammar spells
+abbrev pub types_reason : TypeBreach → List ℕ
+types_reason types.UnknownName = codes "nothing of this name is known here"
+types_reason types.DeclaredTwice = codes "this is declared, or registered, a second time"
+types_reason types.WrongKind = codes "what this names, or says, can't stand here"
+types_reason types.WaitInMethod = codes "a function that SC_METHOD registers can't wait"
+types_reason types.WaitInFunction = codes "a function that is called, or that is no process, can't wait"
+types_reason types.RecursiveCall = codes "by this call a function may call itself"
+types_reason types.NotAPort = codes "the instance's module has no port of this name"
+types_reason types.WrongCount = codes "there are too many arguments, too few, or arguments of another form"
+types_reason types.EffectInside = codes "a call that does more than give a value can't stand inside an expression"
+types_reason types.NotConstant = codes "this has to be known before the simulation, and isn't"
+
 -- all that may be wrong with a text that can't be cut
 abbrev pub lexer_breaches : List LexBreach
 lexer_breaches = lexer.BadByte ∷ lexer.NumberTooWide ∷ lexer.TextNotClosed ∷ lexer.CommentNotClosed
@@ -50,3 +66,12 @@ parser_breaches = parser.Syntax ∷ parser.TooDeep ∷ parser.NotInProfile ∷ [
 -- the breach of the parser of this name
 abbrev pub parse_breach_named : List ℕ → Option ParseBreach
 parse_breach_named name = find (λ breach. bytes_eq name (parser_name_of breach)) parser_breaches
+
+-- all that may be wrong with names and types
+abbrev pub type_breaches : List TypeBreach
+type_breaches = types.UnknownName ∷ types.DeclaredTwice ∷ types.WrongKind ∷ types.WaitInMethod ∷ types.WaitInFunction
+    ∷ types.RecursiveCall ∷ types.NotAPort ∷ types.WrongCount ∷ types.EffectInside ∷ types.NotConstant ∷ []
+
+-- the breach of names and types of this name
+abbrev pub type_breach_named : List ℕ → Option TypeBreach
+type_breach_named name = find (λ breach. bytes_eq name (type_name_of breach)) type_breaches

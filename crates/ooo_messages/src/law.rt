@@ -1,9 +1,10 @@
 //! What holds of the reasons: functions that do nothing, whose clauses are laws of the definitions.
 
-ghost use Rattle.ooo_messages.specs.Laws.{IsFoundByName, IsParseBreachFound};
+ghost use Rattle.ooo_messages.specs.Laws.{IsFoundByName, IsParseBreachFound, IsTypeBreachFound};
 
-/// Each breach of the lexer and of the parser is found by its name.
+/// Each breach of the lexer, of the parser and of names and types is found by its name.
 pub fn found_by_name()
     ensures lexer { IsFoundByName }
     ensures parser { IsParseBreachFound }
+    ensures types { IsTypeBreachFound }
 {}

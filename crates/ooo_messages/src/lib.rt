@@ -4,7 +4,10 @@
 pub mod law;
 mod reasons;
 
-pub use reasons::{lexer_breach, lexer_reason, parser_breach, parser_reason, words_reason};
+pub use reasons::{
+    lexer_breach, lexer_reason, parser_breach, parser_reason, types_breach, types_reason,
+    words_reason,
+};
 
 #[cfg(test)]
 mod tests;

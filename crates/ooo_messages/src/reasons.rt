@@ -1,6 +1,8 @@
 ghost use Rattle.std.specs.Prelude.{◌≡◌};
-ghost use Rattle.ooo_messages.specs.Reasons.{breach_named, lexer_reason, parse_breach_named, parser_reason, words_reason};
+ghost use Rattle.ooo_messages.specs.Reasons.{breach_named, lexer_reason, parse_breach_named, parser_reason, type_breach_named};
+ghost use Rattle.ooo_messages.specs.Reasons.{types_reason, words_reason};
 
+use ooo_checked::TypeBreach;
 use ooo_lexer::LexBreach;
 use ooo_syntax::ParseBreach;
 use ooo_words::WordsBreach;
@@ -45,6 +47,37 @@ pub fn parser_reason(breach: ParseBreach) -> &'static str
     }
 }
 
+/// What is wrong with the names and types of a text that the grammar spells.
+pub fn types_reason(breach: TypeBreach) -> &'static str
+    ensures { result.now ≡ types_reason breach }
+{
+    match breach {
+        TypeBreach::UnknownName => "nothing of this name is known here",
+        TypeBreach::DeclaredTwice => "this is declared, or registered, a second time",
+        TypeBreach::WrongKind => "what this names, or says, can't stand here",
+        TypeBreach::WaitInMethod => "a function that SC_METHOD registers can't wait",
+        TypeBreach::WaitInFunction =>
+            "a function that is called, or that is no process, can't wait",
+        TypeBreach::RecursiveCall => "by this call a function may call itself",
+        TypeBreach::NotAPort => "the instance's module has no port of this name",
+        TypeBreach::WrongCount =>
+            "there are too many arguments, too few, or arguments of another form",
+        TypeBreach::EffectInside =>
+            "a call that does more than give a value can't stand inside an expression",
+        TypeBreach::NotConstant => "this has to be known before the simulation, and isn't",
+    }
+}
+
+/// The breach of names and types that has this name.
+pub fn types_breach(name: &str) -> Option<TypeBreach>
+    ensures { result ≡ type_breach_named name.now }
+{
+    TYPE_BREACHES
+        .iter()
+        .copied()
+        .find(|known| name == known.name())
+}
+
 /// The parser's breach that has this name.
 pub fn parser_breach(name: &str) -> Option<ParseBreach>
     ensures { result ≡ parse_breach_named name.now }
@@ -78,4 +111,17 @@ static PARSER_BREACHES: [ParseBreach; 3] = [
     ParseBreach::Syntax,
     ParseBreach::TooDeep,
     ParseBreach::NotInProfile,
+];
+
+static TYPE_BREACHES: [TypeBreach; 10] = [
+    TypeBreach::UnknownName,
+    TypeBreach::DeclaredTwice,
+    TypeBreach::WrongKind,
+    TypeBreach::WaitInMethod,
+    TypeBreach::WaitInFunction,
+    TypeBreach::RecursiveCall,
+    TypeBreach::NotAPort,
+    TypeBreach::WrongCount,
+    TypeBreach::EffectInside,
+    TypeBreach::NotConstant,
 ];

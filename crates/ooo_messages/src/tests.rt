@@ -1,4 +1,8 @@
-use crate::{lexer_breach, lexer_reason, parser_breach, parser_reason, words_reason};
+use crate::{
+    lexer_breach, lexer_reason, parser_breach, parser_reason, types_breach, types_reason,
+    words_reason,
+};
+use ooo_checked::TypeBreach;
 use ooo_lexer::LexBreach;
 use ooo_syntax::ParseBreach;
 use ooo_words::WordsBreach;
@@ -18,4 +22,10 @@ fn says_what_is_wrong(rt: HostRuntime) {
     );
     assert_eq!(rt; parser_breach("TooDeep"), Some(ParseBreach::TooDeep));
     assert_eq!(rt; parser_breach("BadNumber"), None);
+    assert_eq!(rt;
+        types_reason(TypeBreach::UnknownName),
+        "nothing of this name is known here"
+    );
+    assert_eq!(rt; types_breach("NotAPort"), Some(TypeBreach::NotAPort));
+    assert_eq!(rt; types_breach("Syntax"), None);
 }

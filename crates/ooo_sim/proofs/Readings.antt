@@ -1,5 +1,5 @@
 -- What texts are: refused, or a model's. The laws of the layers below are premises.
-use Rattle.std.proofs.Common.{◌≡◌, ℕ, List, refl, ap, subst, ⊎_elim}
+use Rattle.std.proofs.Common.{◌≡◌, ◌⊎◌, inl, inr, ℕ, List, [], refl, ap, subst, ⊎_elim}
 use Rattle.ooo_lexer.specs.Laws.{IsCutOneWay, HasOneBreach, HasNoCutting, IsCutOrBroken}
 use Rattle.ooo_lexer.specs.Pieces.{lexemes}
 use Rattle.ooo_threads.specs.Laws.{HasOneModel}
@@ -11,8 +11,15 @@ use Rattle.ooo_syntax.specs.declared.unit.Unit.{Unit as UnitSpec}
 use Rattle.ooo_grammar.specs.Roots.{whole_text}
 use Rattle.ooo_parser.specs.Laws.{OneAnswer}
 use Rattle.ooo_parser.specs.Refusals.{IsTreeOf, IsRefused as AreRefused}
+use Rattle.ooo_threads.specs.declared.model.ThreadModel.{ThreadModel}
+use Rattle.ooo_sim.specs.declared.front.Refusal.{Refusal}
 use Rattle.ooo_sim.specs.declared.front.Refusal.TheVariants as refusal
-use Rattle.ooo_sim.specs.Refusals.{IsSpelled, IsMisspelled, text_symbols}
+use Rattle.ooo_checked.specs.declared.breach.Breach.{Breach}
+use Rattle.ooo_checked.specs.declared.breach.TypeBreach.{TypeBreach}
+use Rattle.ooo_types.specs.Told.{HasOneBreach as HasOneTypeBreach, IsEither, IsLeast, IsNotBoth as IsRightOrWrong, breaches_of}
+use Rattle.ooo_lexer.specs.Breaches.{HasBreach}
+use Rattle.ooo_lexer.specs.declared.breach.LexBreach.{LexBreach}
+use Rattle.ooo_sim.specs.Refusals.{IsRefused, IsSpelled, IsMisspelled, IsMistyped, IsTextOf, text_symbols}
 use Rattle.ooo_sim.specs.Laws.{HasOneRefusal, IsOfOneModel, IsNotBoth, LeavesNoneOut}
 
 -- a text is cut in one way, so what is said of its symbols is said of one list
@@ -25,36 +32,83 @@ pub of_one_model : IsCutOneWay → HasOneModel → IsOfOneModel
 of_one_model cut one text m n a b =
     one (lexemes b.spelled.pieces) m n (subst (λ ls. IsModelOf ls m) (ap lexemes (cut text a.spelled.pieces b.spelled.pieces a.spelled.cut b.spelled.cut)) a.model) b.model
 
-pub not_both : IsCutOneWay → HasNoCutting → OneAnswer → IsNotBoth
-not_both cut uncut one text (refusal.Lexer breach at) m r t = uncut text breach at t.spelled.pieces r t.spelled.cut
-not_both cut uncut one text (refusal.Parser breach at) m r t = apart cut one text r t.spelled
-not_both cut uncut one text refusal.NotBuilt m r t = r.none m t
+-- a text is spelled as one tree
+one_tree : IsCutOneWay → OneAnswer → (text : List ℕ) {t u : UnitSpec} → IsSpelled text t → IsSpelled text u → t ≡ u
+one_tree cut one text {t} {u} a b =
+    (one whole_text (text_symbols text b.pieces) (position_of_end text)).one_tree t u
+    (subst (λ ps. IsTreeOf whole_text (text_symbols text ps) t) (cut text a.pieces b.pieces a.cut b.cut) a.spelled) b.spelled
 
-pub one_refusal : IsCutOneWay → HasOneBreach → HasNoCutting → OneAnswer → HasOneRefusal
-one_refusal cut one uncut answer text (refusal.Lexer b at) (refusal.Lexer c there) r s =
-    let same = one text b at r c there s in
-    let breach : c ≡ b = same.0 in
-    let position : there ≡ at = same.1 in
-    cc
-one_refusal cut one uncut answer text (refusal.Lexer b at) (refusal.Parser c there) r s = absurd (uncut text b at s.pieces r s.cut)
-one_refusal cut one uncut answer text (refusal.Lexer b at) refusal.NotBuilt r s = absurd (uncut text b at s.spelled.pieces r s.spelled.cut)
-one_refusal cut one uncut answer text (refusal.Parser b at) (refusal.Lexer c there) r s = absurd (uncut text c there r.pieces s r.cut)
-one_refusal cut one uncut answer text (refusal.Parser b at) (refusal.Parser c there) r s =
-    let same = (answer whole_text (text_symbols text s.pieces) (position_of_end text)).one_refusal b c at there
-    (subst (λ ps. AreRefused whole_text (text_symbols text ps) (position_of_end text) b at) (cut text r.pieces s.pieces r.cut s.cut) r.refused) s.refused in
-    let breach : b ≡ c = same.0 in
-    let position : at ≡ there = same.1 in
-    cc
-one_refusal cut one uncut answer text (refusal.Parser b at) refusal.NotBuilt r s = absurd (apart cut answer text r s.spelled)
-one_refusal cut one uncut answer text refusal.NotBuilt (refusal.Lexer c there) r s = absurd (uncut text c there r.spelled.pieces s r.spelled.cut)
-one_refusal cut one uncut answer text refusal.NotBuilt (refusal.Parser c there) r s = absurd (apart cut answer text s r.spelled)
-one_refusal cut one uncut answer text refusal.NotBuilt refusal.NotBuilt r s = refl
+-- a text with a breach of its names and types is not one with none
+wrong_or_right : IsCutOneWay → OneAnswer → IsRightOrWrong → (text : List ℕ) {t : UnitSpec} {breach : TypeBreach} {at : Position} →
+    IsMistyped text breach at → IsSpelled text t → breaches_of t ≡ [] → ⊥
+wrong_or_right cut one both text {t} {breach} {at} r s right =
+    both t (record { what = breach; at = at })
+    (subst (λ u. IsLeast (record { what = breach; at = at }) (breaches_of u)) (one_tree cut one text r.spelled s) r.told) right
 
-pub none_left_out : IsCutOrBroken → OneAnswer → LeavesNoneOut
-none_left_out either answer text unrefused unread =
+pub not_both : IsCutOneWay → HasNoCutting → OneAnswer → IsRightOrWrong → IsNotBoth
+not_both cut uncut one both text (refusal.Lexer breach at) m r t = uncut text breach at t.spelled.pieces r t.spelled.cut
+not_both cut uncut one both text (refusal.Parser breach at) m r t = apart cut one text r t.spelled
+not_both cut uncut one both text (refusal.Types breach at) m r t = wrong_or_right cut one both text r t.spelled t.right
+not_both cut uncut one both text refusal.NotBuilt m r t = r.none m t
+
+module _ (cut : IsCutOneWay) (one : HasOneBreach) (uncut : HasNoCutting) (answer : OneAnswer) (types : HasOneTypeBreach)
+    (both : IsRightOrWrong) where
+  -- what the lexer refuses is not spelled
+  uncut_spelled : (text : List ℕ) {b : LexBreach} {at : Position} {t : UnitSpec} → HasBreach text b at → IsSpelled text t → ⊥
+  uncut_spelled text {b} {at} r s = uncut text b at s.pieces r s.cut
+
+  one_type_breach : (text : List ℕ) (b c : TypeBreach) (at there : Position) → IsMistyped text b at → IsMistyped text c there →
+      refusal.Types b at ≡ refusal.Types c there
+  one_type_breach text b c at there r s =
+      ap (λ (d : Breach). refusal.Types d.what d.at)
+      (types s.tree (record { what = b; at = at }) (record { what = c; at = there })
+      (subst (λ u. IsLeast (record { what = b; at = at }) (breaches_of u)) (one_tree cut answer text r.spelled s.spelled) r.told) s.told)
+
+  pub one_refusal : HasOneRefusal
+  one_refusal text (refusal.Lexer b at) (refusal.Lexer c there) r s =
+      let same = one text b at r c there s in
+      let breach : c ≡ b = same.0 in
+      let position : there ≡ at = same.1 in
+      cc
+  one_refusal text (refusal.Lexer b at) (refusal.Parser c there) r s = absurd (uncut text b at s.pieces r s.cut)
+  one_refusal text (refusal.Lexer b at) (refusal.Types c there) r s = absurd (uncut_spelled text r s.spelled)
+  one_refusal text (refusal.Lexer b at) refusal.NotBuilt r s = absurd (uncut_spelled text r s.spelled)
+  one_refusal text (refusal.Parser b at) (refusal.Lexer c there) r s = absurd (uncut text c there r.pieces s r.cut)
+  one_refusal text (refusal.Parser b at) (refusal.Parser c there) r s =
+      let same = (answer whole_text (text_symbols text s.pieces) (position_of_end text)).one_refusal b c at there
+      (subst (λ ps. AreRefused whole_text (text_symbols text ps) (position_of_end text) b at) (cut text r.pieces s.pieces r.cut s.cut) r.refused) s.refused in
+      let breach : b ≡ c = same.0 in
+      let position : at ≡ there = same.1 in
+      cc
+  one_refusal text (refusal.Parser b at) (refusal.Types c there) r s = absurd (apart cut answer text r s.spelled)
+  one_refusal text (refusal.Parser b at) refusal.NotBuilt r s = absurd (apart cut answer text r s.spelled)
+  one_refusal text (refusal.Types b at) (refusal.Lexer c there) r s = absurd (uncut_spelled text s r.spelled)
+  one_refusal text (refusal.Types b at) (refusal.Parser c there) r s = absurd (apart cut answer text s r.spelled)
+  one_refusal text (refusal.Types b at) (refusal.Types c there) r s = one_type_breach text b c at there r s
+  one_refusal text (refusal.Types b at) refusal.NotBuilt r s = absurd (wrong_or_right cut answer both text r s.spelled s.right)
+  one_refusal text refusal.NotBuilt (refusal.Lexer c there) r s = absurd (uncut_spelled text s r.spelled)
+  one_refusal text refusal.NotBuilt (refusal.Parser c there) r s = absurd (apart cut answer text s r.spelled)
+  one_refusal text refusal.NotBuilt (refusal.Types c there) r s = absurd (wrong_or_right cut answer both text s r.spelled r.right)
+  one_refusal text refusal.NotBuilt refusal.NotBuilt r s = refl
+
+-- a breach is told as its parts
+told_as : (bs : List Breach) (b : Breach) → IsLeast b bs → IsLeast (record { what = b.what; at = b.at }) bs
+told_as bs b least = least
+
+-- a text that is spelled is refused for its names and types, or is no model's, or is a model's
+spelled_out : (text : List ℕ) → ((why : Refusal) → ¬ IsRefused text why) → ((m : ThreadModel) → ¬ IsTextOf text m) → (t : UnitSpec) →
+    IsSpelled text t → (breaches_of t ≡ []) ⊎ ((b : Breach) × IsLeast b (breaches_of t)) → ⊥
+spelled_out text unrefused unread t s (inl right) =
+    unrefused refusal.NotBuilt (record { tree = t; spelled = s; right = right; none = unread })
+spelled_out text unrefused unread t s (inr wrong) =
+    unrefused (refusal.Types wrong.0.what wrong.0.at)
+    (record { tree = t; spelled = s; told = told_as (breaches_of t) wrong.0 wrong.1 })
+
+pub none_left_out : IsCutOrBroken → OneAnswer → IsEither → LeavesNoneOut
+none_left_out either answer typed text unrefused unread =
     ⊎_elim
     (λ cut. ⊎_elim
-    (λ t. unrefused refusal.NotBuilt (record { tree = t.0; spelled = record { pieces = cut.0; cut = cut.1; spelled = t.1 }; none = unread }))
+    (λ t. spelled_out text unrefused unread t.0 (record { pieces = cut.0; cut = cut.1; spelled = t.1 }) (typed t.0))
     (λ r. unrefused (refusal.Parser r.0 r.1) (record { pieces = cut.0; cut = cut.1; refused = r.2 }))
     (answer whole_text (text_symbols text cut.0) (position_of_end text)).answered)
     (λ broken. unrefused (refusal.Lexer broken.0 broken.1.0) broken.1.1)

@@ -1,5 +1,5 @@
 -- What the layers' errors are to the front.
-use Rattle.std.specs.Prelude.{ℕ, List, Result, Ok, Err}
+use Rattle.std.specs.Prelude.{◌≡◌, ℕ, List, [], Result, Ok, Err}
 use Rattle.ooo_lexer.specs.declared.error.LexError.{LexError}
 use Rattle.ooo_lexer.specs.declared.error.LexError.TheVariants as lexer
 use Rattle.ooo_lexer.specs.Positions.{position_of_end}
@@ -12,6 +12,10 @@ use Rattle.ooo_grammar.specs.Roots.{whole_text}
 use Rattle.ooo_parser.specs.Refusals.{IsTreeOf, IsRefused as AreRefused}
 use Rattle.ooo_parser.specs.Sources.{symbols_in}
 use Rattle.ooo_syntax.specs.declared.error.ParseError.TheVariants as parser
+use Rattle.ooo_checked.specs.declared.breach.TypeBreach.{TypeBreach}
+use Rattle.ooo_checked.specs.declared.breach.TypeError.{TypeError}
+use Rattle.ooo_checked.specs.declared.breach.TypeError.TheVariants as types
+use Rattle.ooo_types.specs.Told.{IsLeast, breaches_of}
 use Rattle.ooo_threads.specs.declared.form.FormError.{FormError}
 use Rattle.ooo_threads.specs.declared.form.FormError.TheVariants as form
 use Rattle.ooo_sim.specs.declared.front.FrontError.{FrontError}
@@ -27,20 +31,48 @@ abbrev pub error_of_parser : ParseError → FrontError
 error_of_parser (parser.Refused breach at) = error.Refused (refusal.Parser breach at)
 error_of_parser parser.OutOfMemory = error.OutOfMemory
 
+abbrev pub error_of_types : TypeError → FrontError
+error_of_types (types.Refused breach at) = error.Refused (refusal.Types breach at)
+error_of_types types.OutOfMemory = error.OutOfMemory
+
 abbrev pub error_of_form : FormError → FrontError
 error_of_form form.NotBuilt = error.Refused refusal.NotBuilt
 error_of_form form.OutOfMemory = error.OutOfMemory
 
--- the grammar spells these tokens of a text
-abbrev pub AreSpelled : List ℕ → List Token → Type 0
-AreSpelled text tokens = (tree : UnitSpec) × IsTreeOf whole_text (symbols_in text tokens) tree
+-- the grammar spells these tokens of a text as this tree
+abbrev pub AreSpelled : List ℕ → List Token → UnitSpec → Type 0
+AreSpelled text tokens tree = IsTreeOf whole_text (symbols_in text tokens) tree
+
+-- and nothing is wrong with its names and types
+pub record AreRight (text : List ℕ) (tokens : List Token) : Type 0 where
+  pub tree : UnitSpec
+  pub spelled : AreSpelled text tokens tree
+  pub right : breaches_of tree ≡ []
+
+-- this breach of its names and types is told, at this place
+pub record AreMistyped (text : List ℕ) (tokens : List Token) (breach : TypeBreach) (at : Position) : Type 0 where
+  pub tree : UnitSpec
+  pub spelled : AreSpelled text tokens tree
+  pub told : IsLeast (record { what = breach; at = at }) (breaches_of tree)
 
 -- it refuses them, as this and there
 abbrev pub AreMisspelled : List ℕ → List Token → ParseBreach → Position → Type 0
 AreMisspelled text tokens breach at = AreRefused whole_text (symbols_in text tokens) (position_of_end text) breach at
 
+-- tokens that are refused are refused for this, by the grammar or for their names and types; out of memory says nothing
+abbrev pub RefusesTokens : List ℕ → List Token → FrontError → Type 0
+RefusesTokens text tokens (error.Refused (refusal.Lexer breach at)) = ⊥
+RefusesTokens text tokens (error.Refused (refusal.Parser breach at)) = AreMisspelled text tokens breach at
+RefusesTokens text tokens (error.Refused (refusal.Types breach at)) = AreMistyped text tokens breach at
+RefusesTokens text tokens (error.Refused refusal.NotBuilt) = ⊥
+RefusesTokens text tokens error.OutOfMemory = Unit {0}
+
 -- a text that is refused is refused for this; out of memory says nothing of it
+abbrev pub RefusesFor : List ℕ → FrontError → Type 0
+RefusesFor text (error.Refused why) = IsRefused text why
+RefusesFor text error.OutOfMemory = Unit {0}
+
+-- the same of an answer
 abbrev pub Refuses : {T : Type 0} → List ℕ → Result T FrontError → Type 0
 Refuses text (Ok ready) = Unit {0}
-Refuses text (Err (error.Refused why)) = IsRefused text why
-Refuses text (Err error.OutOfMemory) = Unit {0}
+Refuses text (Err why) = RefusesFor text why

@@ -1,5 +1,5 @@
 -- Why a text is refused, layer by layer, and the line that says so.
-use Rattle.std.specs.Prelude.{ℕ, List, [], ◌++◌, codes, decimal}
+use Rattle.std.specs.Prelude.{◌≡◌, ℕ, List, [], ◌++◌, codes, decimal}
 use Rattle.ooo_lexer.specs.Breaches.{HasBreach, name_of}
 use Rattle.ooo_lexer.specs.Pieces.{Piece, Cuts, lexemes}
 use Rattle.ooo_lexer.specs.Positions.{position_of_end, tokens_after}
@@ -11,6 +11,9 @@ use Rattle.ooo_syntax.specs.declared.unit.Unit.{Unit as UnitSpec}
 use Rattle.ooo_grammar.specs.Roots.{whole_text}
 use Rattle.ooo_parser.specs.Refusals.{IsTreeOf, IsRefused as AreRefused}
 use Rattle.ooo_parser.specs.Sources.{symbols_in}
+use Rattle.ooo_checked.specs.declared.breach.TypeBreach.{TypeBreach}
+use Rattle.ooo_checked.specs.Breaches.{name_of as type_name_of}
+use Rattle.ooo_types.specs.Told.{IsLeast, breaches_of}
 use Rattle.ooo_threads.specs.declared.model.ThreadModel.{ThreadModel}
 use Rattle.ooo_threads.specs.Ready.{IsModelOf}
 use Rattle.ooo_sim.specs.declared.front.Refusal.{Refusal}
@@ -32,22 +35,31 @@ pub record IsMisspelled (text : List ℕ) (breach : ParseBreach) (at : Position)
   pub cut : Cuts text pieces
   pub refused : AreRefused whole_text (text_symbols text pieces) (position_of_end text) breach at
 
--- the text is cut into these pieces, whose lexemes are this model's; the grammar spells it
+-- the grammar spells the text, and of what is wrong with its names and types this is told, at this place
+pub record IsMistyped (text : List ℕ) (breach : TypeBreach) (at : Position) : Type 0 where
+  pub tree : UnitSpec
+  pub spelled : IsSpelled text tree
+  pub told : IsLeast (record { what = breach; at = at }) (breaches_of tree)
+
+-- the text is cut into these pieces, whose lexemes are this model's; the grammar spells it, and its names and types are right
 pub record IsTextOf (text : List ℕ) (m : ThreadModel) : Type 0 where
   pub tree : UnitSpec
   pub spelled : IsSpelled text tree
+  pub right : breaches_of tree ≡ []
   pub model : IsModelOf (lexemes spelled.pieces) m
 
--- the grammar spells the text, and it is no model's
+-- the grammar spells the text, its names and types are right, and it is no model's
 pub record IsNotBuilt (text : List ℕ) : Type 0 where
   pub tree : UnitSpec
   pub spelled : IsSpelled text tree
+  pub right : breaches_of tree ≡ []
   pub none : (m : ThreadModel) → IsTextOf text m → ⊥
 
--- what each layer refuses: the lexer its breaches, the parser what the grammar doesn't spell, the form that is built so far all that it doesn't read
+-- what each layer refuses: the lexer its breaches, the parser what the grammar doesn't spell, the types their breaches, the form that is built so far all that it doesn't read
 abbrev pub IsRefused : List ℕ → Refusal → Type 0
 IsRefused text (refusal.Lexer breach at) = HasBreach text breach at
 IsRefused text (refusal.Parser breach at) = IsMisspelled text breach at
+IsRefused text (refusal.Types breach at) = IsMistyped text breach at
 IsRefused text refusal.NotBuilt = IsNotBuilt text
 
 -- a layer's line: its name, the breach's name, line and column
@@ -59,4 +71,5 @@ layer_line layer name at =
 abbrev pub refusal_line : Refusal → List ℕ
 refusal_line (refusal.Lexer breach at) = layer_line (codes "lexer") (name_of breach) at
 refusal_line (refusal.Parser breach at) = layer_line (codes "parser") (parser_name_of breach) at
+refusal_line (refusal.Types breach at) = layer_line (codes "types") (type_name_of breach) at
 refusal_line refusal.NotBuilt = codes "refused form NotBuilt\n"

@@ -1,16 +1,19 @@
-ghost use Rattle.std.specs.Prelude.{◌≡◌, ◌≤◌, length, All, Err, IfOk};
+ghost use Rattle.std.specs.Prelude.{◌≡◌, ◌≤◌, [], length, All, Err, IfErr, IfOk};
 ghost use Rattle.ooo_lexer.specs.Spans.{AreInOrder, IsWithin};
 ghost use Rattle.ooo_lexer.specs.declared.position.Position.{Position as PositionSpec};
-ghost use Rattle.ooo_syntax.specs.declared.error.ParseBreach.{ParseBreach as ParseBreachSpec};
+ghost use Rattle.ooo_checked.specs.declared.breach.TypeBreach.{TypeBreach as TypeBreachSpec};
+ghost use Rattle.ooo_types.specs.Told.{IsLeast, breaches_of};
 ghost use Rattle.ooo_threads.specs.Ready.{IsReady};
-ghost use Rattle.ooo_sim.specs.Front.{AreMisspelled, AreSpelled, Refuses};
+ghost use Rattle.ooo_sim.specs.Front.{AreRight, Refuses, RefusesTokens};
 ghost use Rattle.ooo_sim.specs.Refusals.{IsTextOf};
 ghost use Rattle.ooo_sim.specs.declared.reply.TheConstants.{MOST_BYTES};
 
+use ooo_checked::{TypeBreach, TypeError};
 use ooo_lexer::{LexBreach, LexError, Position, Token, lex};
 use ooo_parser::parse;
-use ooo_syntax::{ParseBreach, ParseError};
+use ooo_syntax::{ParseBreach, ParseError, Unit};
 use ooo_threads::{FormError, Ready};
+use ooo_types::check;
 use std::alloc::Global;
 
 /// Why a text is refused, by the layer that refuses it.
@@ -20,6 +23,8 @@ pub enum Refusal {
     Lexer(LexBreach, Position),
     /// The tokens are no text of the grammar: what is wrong, and where.
     Parser(ParseBreach, Position),
+    /// A name or a type of the text is wrong: what is wrong, and where.
+    Types(TypeBreach, Position),
     /// The tokens are no model of the form that is built so far.
     NotBuilt,
 }
@@ -60,6 +65,20 @@ impl From<ParseError> for FrontError {
     }
 }
 
+impl From<TypeError> for FrontError {
+    ghost use Rattle.std.specs.Prelude.{◌≡◌};
+    ghost use Rattle.ooo_sim.specs.Front.{error_of_types};
+
+    ghost from_gives = { λ error own. own ≡ error_of_types error };
+
+    fn from(error: TypeError) -> FrontError {
+        match error {
+            TypeError::Refused(breach, at) => FrontError::Refused(Refusal::Types(breach, at)),
+            TypeError::OutOfMemory => FrontError::OutOfMemory,
+        }
+    }
+}
+
 impl From<FormError> for FrontError {
     ghost use Rattle.std.specs.Prelude.{◌≡◌};
     ghost use Rattle.ooo_sim.specs.Front.{error_of_form};
@@ -75,7 +94,7 @@ impl From<FormError> for FrontError {
 }
 
 /// The model of a text, or the refusal of the first layer that refuses it.
-#[tactic(auto, using(crate::proofs::Fronts::text_of, crate::proofs::Fronts::misspelled, crate::proofs::Fronts::not_built))]
+#[tactic(auto, using(crate::proofs::Fronts::text_of, crate::proofs::Fronts::refused_tokens, crate::proofs::Fronts::not_built))]
 pub(crate) fn model_of(alloc: Global, text: &[u8]) -> Result<Ready, FrontError>
     requires { length text.now ≤ MOST_BYTES }
     ensures model { IfOk result (λ ready. IsTextOf text.now ready.model) }
@@ -83,21 +102,37 @@ pub(crate) fn model_of(alloc: Global, text: &[u8]) -> Result<Ready, FrontError>
     ensures refused { Refuses text.now result }
 {
     let tokens = lex(alloc, text)?;
-    spelled(alloc, text, &tokens)?;
+    checked(alloc, text, &tokens)?;
     Ok(Ready::read(alloc, text, &tokens)?)
 }
 
-// That the grammar spells the tokens, or why it doesn't. No later layer takes its tree yet.
-fn spelled(alloc: Global, text: &[u8], tokens: &[Token]) -> Result<(), ParseError>
+// That the grammar spells the tokens, and that their names and types are right, or why not. No later layer takes the tree
+// yet.
+#[tactic(auto, using(crate::proofs::Fronts::parse_refused, crate::proofs::Fronts::types_refused))]
+fn checked(alloc: Global, text: &[u8], tokens: &[Token]) -> Result<(), FrontError>
     requires short { length text.now ≤ MOST_BYTES }
     requires within { All (IsWithin text.now) tokens.now }
     requires in_order { AreInOrder tokens.now }
-    ensures spelled { IfOk result (λ _. AreSpelled text.now tokens.now) }
-    ensures refused { (breach : ParseBreachSpec) (at : PositionSpec)
-        → result ≡ Err (ParseError.Refused breach at)
-        → AreMisspelled text.now tokens.now breach at }
+    ensures right { IfOk result (λ _. AreRight text.now tokens.now) }
+    ensures refused { IfErr result (RefusesTokens text.now tokens.now) }
 {
-    without_value(parse(alloc, text, tokens))
+    match parse(alloc, text, tokens) {
+        Ok(tree) => match right(alloc, tree) {
+            Ok(()) => Ok(()),
+            Err(error) => Err(FrontError::from(error)),
+        },
+        Err(error) => Err(FrontError::from(error)),
+    }
+}
+
+// That the names and types of a tree are right, or what is wrong with them.
+fn right(alloc: Global, tree: Unit) -> Result<(), TypeError>
+    ensures right { IfOk result (λ _. breaches_of tree ≡ []) }
+    ensures refused { (breach : TypeBreachSpec) (at : PositionSpec)
+        → result ≡ Err (TypeError.Refused breach at)
+        → IsLeast (record { what = breach; at = at }) (breaches_of tree) }
+{
+    without_value(check(alloc, &tree))
 }
 
 // The answer without its value, which goes.

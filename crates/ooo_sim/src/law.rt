@@ -15,6 +15,7 @@ pub fn one_reading()
     ooo_lexer::law::one_cutting();
     ooo_lexer::law::one_breach();
     ooo_parser::law::one_answer();
+    ooo_types::law::one_breach();
     ooo_threads::law::one_model();
 }
 

@@ -13,6 +13,7 @@ pub(crate) fn refusal_line(alloc: Global, refusal: Refusal) -> Result<Vec<u8>, A
     match refusal {
         Refusal::Lexer(breach, at) => layer_line(alloc, "lexer", breach.name(), at),
         Refusal::Parser(breach, at) => layer_line(alloc, "parser", breach.name(), at),
+        Refusal::Types(breach, at) => layer_line(alloc, "types", breach.name(), at),
         Refusal::NotBuilt => Vec::from_slice(alloc, b"refused form NotBuilt\n"),
     }
 }
