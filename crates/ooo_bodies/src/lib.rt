@@ -15,5 +15,3 @@ mod names;
 pub mod notes;
 pub mod simple_stats;
 pub mod stats;
-#[cfg(test)]
-mod tests;
