@@ -6,6 +6,7 @@ pub mod Errors
 pub mod Refusals
 pub mod Models
 pub mod NameLists
+pub mod NamePlaces
 pub mod Numbers
 pub mod Rules
 pub mod Fits

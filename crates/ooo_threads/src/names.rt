@@ -1,30 +1,33 @@
-ghost use Rattle.std.specs.Prelude.{◌≡◌, ◌<◌, ◌++◌, [], ◌∷◌, true, false, not, map, take, length, All, is_some, IfOk, IfSome, IfNone, MatchOption};
+ghost use Rattle.std.specs.Prelude.{◌≡◌, ◌<◌, ◌++◌, [], ◌∷◌, true, false, not, map, length, All, is_some, IfOk, IfSome, IfNone, MatchOption};
 ghost use Rattle.std.specs.List.{list_any, list_all};
-ghost use Rattle.ooo_threads.specs.Names.{has_name, are_distinct, are_free, is_wait, is_registered, function_names, member_names, main_names, keeps_rules, names_keep_rules, threads_keep_rules};
+ghost use Rattle.ooo_threads.specs.Names.{has_name, are_distinct, are_free, is_wait, function_names, member_names, main_names, keeps_rules, names_keep_rules, threads_keep_rules};
 ghost use Rattle.ooo_syntax.specs.Words.{is_reserved};
 ghost use Rattle.ooo_threads.specs.Threads.{body_named, bodies_of};
-ghost use Rattle.ooo_threads.specs.Bodies.{bytes_in, names_in};
+ghost use Rattle.ooo_threads.specs.Bodies.{bytes_in, is_registered_in, HasPlacesOf};
 ghost use Rattle.ooo_threads.specs.Walker.{body_at};
 
 use crate::model::{Bytes, Function, Statement, ThreadModel};
-use indexmap::IndexSet;
 use ooo_syntax::is_reserved;
 use std::alloc::{AllocError, Global};
+use std::collections::BTreeMap;
 
 // How many threads a model has at most.
 const MOST_THREADS: usize = 256;
 
-// The names, or none where one stands twice.
-fn set_of<'a>(alloc: Global, names: &[&'a [u8]]) -> Result<Option<IndexSet<&'a [u8]>>, AllocError>
-    ensures { IfOk result (λ found. MatchOption found (are_distinct (bytes_in names.now) ≡ false) (λ set. (are_distinct (bytes_in names.now) ≡ true) × (names_in set ≡ bytes_in names.now))) }
+// Each name, with the place where it stands. In order, and not hashed: a text can choose its names.
+type Places<'a> = BTreeMap<&'a [u8], usize>;
+
+// The names with their places, or none where one stands twice.
+fn places_of<'a>(alloc: Global, names: &[&'a [u8]]) -> Result<Option<Places<'a>>, AllocError>
+    ensures { IfOk result (λ found. MatchOption found (are_distinct (bytes_in names.now) ≡ false) (λ places. (are_distinct (bytes_in names.now) ≡ true) × HasPlacesOf places (bytes_in names.now))) }
 {
-    let mut set = IndexSet::new(alloc);
-    for name in names {
-        if !set.insert(*name)? {
+    let mut places = BTreeMap::new(alloc);
+    for (place, name) in names.iter().enumerate() {
+        if places.insert(*name, place)?.is_some() {
             return Ok(None);
         }
     }
-    Ok(Some(set))
+    Ok(Some(places))
 }
 
 fn is_wait(statement: &Statement) -> bool
@@ -71,29 +74,29 @@ fn waits(body: &[Statement]) -> bool
     body.iter().any(|statement| is_wait(statement))
 }
 
-fn is_registered(threads: &IndexSet<&[u8]>, function: &Function) -> bool
-    ensures { result ≡ is_registered (names_in threads.now) function.now }
+fn is_registered(threads: &Places, function: &Function) -> bool
+    ensures { result ≡ is_registered_in threads.now function.now }
 {
-    !waits(function.body.as_slice()) || threads.contains(&function.name.as_slice())
+    !waits(function.body.as_slice()) || threads.contains_key(function.name.as_slice())
 }
 
-fn are_registered(threads: &IndexSet<&[u8]>, functions: &[Function]) -> bool
-    ensures { result ≡ list_all (is_registered (names_in threads.now)) functions.now }
+fn are_registered(threads: &Places, functions: &[Function]) -> bool
+    ensures { result ≡ list_all (is_registered_in threads.now) functions.now }
 {
     functions
         .iter()
         .all(|function| is_registered(threads, function))
 }
 
-// The number of the function of this name, where the names begin with those of the functions.
-fn function_number(functions: &[Function], names: &IndexSet<&[u8]>, name: &[u8]) -> Option<usize>
-    requires { take (length functions.now) (names_in names.now) ≡ function_names functions.now }
-    ensures within { IfSome result (λ i. i < length functions.now) }
-    ensures known { is_some result ≡ has_name (function_names functions.now) name.now }
-    ensures body { IfSome result (λ i. body_at functions.now i ≡ body_named functions.now name.now) }
+// The number of the function of this name, where the members are those of the model.
+fn function_number(model: &ThreadModel, members: &Places, name: &[u8]) -> Option<usize>
+    requires { HasPlacesOf members.now (member_names model.now) }
+    ensures within { IfSome result (λ i. i < length model.now.functions) }
+    ensures known { is_some result ≡ has_name (function_names model.now.functions) name.now }
+    ensures body { IfSome result (λ i. body_at model.now.functions i ≡ body_named model.now.functions name.now) }
 {
-    match names.get_index_of(&name) {
-        Some(index) if index < functions.len() => Some(index),
+    match members.get(name) {
+        Some(place) if *place < model.functions.len() => Some(*place),
         _ => None,
     }
 }
@@ -101,19 +104,18 @@ fn function_number(functions: &[Function], names: &IndexSet<&[u8]>, name: &[u8])
 // The numbers of the threads' functions, or none where a thread is no function.
 fn resolve(
     alloc: Global,
-    functions: &[Function],
-    names: &IndexSet<&[u8]>,
-    threads: &[Bytes],
+    model: &ThreadModel,
+    members: &Places,
 ) -> Result<Option<Vec<usize>>, AllocError>
-    requires { take (length functions.now) (names_in names.now) ≡ function_names functions.now }
-    ensures none { IfOk result (λ found. IfNone found (list_all (has_name (function_names functions.now)) threads.now ≡ false)) }
-    ensures all { IfOk result (λ found. IfSome found (λ numbers. list_all (has_name (function_names functions.now)) threads.now ≡ true)) }
-    ensures within { IfOk result (λ found. IfSome found (λ numbers. All (λ i. i < length functions.now) numbers.items)) }
-    ensures bodies { IfOk result (λ found. IfSome found (λ numbers. map (body_at functions.now) numbers.items ≡ map (body_named functions.now) threads.now)) }
+    requires { HasPlacesOf members.now (member_names model.now) }
+    ensures none { IfOk result (λ found. IfNone found (list_all (has_name (function_names model.now.functions)) model.now.threads ≡ false)) }
+    ensures all { IfOk result (λ found. IfSome found (λ numbers. list_all (has_name (function_names model.now.functions)) model.now.threads ≡ true)) }
+    ensures within { IfOk result (λ found. IfSome found (λ numbers. All (λ i. i < length model.now.functions) numbers.items)) }
+    ensures bodies { IfOk result (λ found. IfSome found (λ numbers. map (body_at model.now.functions) numbers.items ≡ bodies_of model.now)) }
 {
     let mut numbers = Vec::new(alloc);
-    for thread in threads {
-        match function_number(functions, names, thread.as_slice()) {
+    for thread in model.threads.as_slice() {
+        match function_number(model, members, thread.as_slice()) {
             Some(number) => numbers.push(number)?,
             None => return Ok(None),
         }
@@ -121,19 +123,16 @@ fn resolve(
     Ok(Some(numbers))
 }
 
-// The names as a set, or none where one stands twice or is reserved.
-fn free_set_of<'a>(
-    alloc: Global,
-    names: &[&'a [u8]],
-) -> Result<Option<IndexSet<&'a [u8]>>, AllocError>
+// The names with their places, or none where one stands twice or is reserved.
+fn free_places_of<'a>(alloc: Global, names: &[&'a [u8]]) -> Result<Option<Places<'a>>, AllocError>
     ensures none { IfOk result (λ found. IfNone found (names_keep_rules (bytes_in names.now) ≡ false)) }
-    ensures all { IfOk result (λ found. IfSome found (λ set. names_keep_rules (bytes_in names.now) ≡ true)) }
-    ensures names { IfOk result (λ found. IfSome found (λ set. names_in set ≡ bytes_in names.now)) }
+    ensures all { IfOk result (λ found. IfSome found (λ places. names_keep_rules (bytes_in names.now) ≡ true)) }
+    ensures places { IfOk result (λ found. IfSome found (λ places. HasPlacesOf places (bytes_in names.now))) }
 {
     if !are_free(names) {
         return Ok(None);
     }
-    set_of(alloc, names)
+    places_of(alloc, names)
 }
 
 // Whether the names of the module and of the parameters of `sc_main` keep the rules.
@@ -145,14 +144,14 @@ fn main_names_keep_rules(alloc: Global, model: &ThreadModel) -> Result<bool, All
         model.count_parameter.as_slice(),
         model.values_parameter.as_slice(),
     ];
-    Ok(free_set_of(alloc, &names)?.is_some())
+    Ok(free_places_of(alloc, &names)?.is_some())
 }
 
 fn threads_keep_rules(alloc: Global, model: &ThreadModel) -> Result<bool, AllocError>
     ensures { IfOk result (λ keep. keep ≡ threads_keep_rules model.now) }
 {
     let names = thread_names(alloc, model.threads.as_slice())?;
-    match set_of(alloc, &names)? {
+    match places_of(alloc, &names)? {
         None => Ok(false),
         Some(threads) => Ok(are_registered(&threads, model.functions.as_slice())),
     }
@@ -170,7 +169,7 @@ pub(crate) fn processes_of(
     ensures bodies { IfOk result (λ found. IfSome found (λ numbers. map (body_at model.now.functions) numbers.items ≡ bodies_of model.now)) }
 {
     let names = member_names(alloc, model)?;
-    let Some(members) = free_set_of(alloc, &names)? else {
+    let Some(members) = free_places_of(alloc, &names)? else {
         return Ok(None);
     };
     if !main_names_keep_rules(alloc, model)?
@@ -179,10 +178,5 @@ pub(crate) fn processes_of(
     {
         return Ok(None);
     }
-    resolve(
-        alloc,
-        model.functions.as_slice(),
-        &members,
-        model.threads.as_slice(),
-    )
+    resolve(alloc, model, &members)
 }

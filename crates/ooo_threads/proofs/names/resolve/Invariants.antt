@@ -7,7 +7,7 @@ use Rattle.ooo_threads.proofs.names.resolve.Given as goal
 
 abbrev pub invariant-loop-thread : goal.invariant-loop-thread
 invariant-loop-thread l = record {
-  within : All (λ i. i < length l.functions) l.numbers.items;
-  bodies : map (body_at l.functions) l.numbers.items ≡ map (body_named l.functions) (take l.thread-index l.threads);
-  same : list_all (has_name (function_names l.functions)) l.threads ≡ list_all (has_name (function_names l.functions)) (drop l.thread-index l.threads);
+  within : All (λ i. i < length l.model.functions) l.numbers.items;
+  bodies : map (body_at l.model.functions) l.numbers.items ≡ map (body_named l.model.functions) (take l.thread-index l.model.threads);
+  same : list_all (has_name (function_names l.model.functions)) l.model.threads ≡ list_all (has_name (function_names l.model.functions)) (drop l.thread-index l.model.threads);
 }

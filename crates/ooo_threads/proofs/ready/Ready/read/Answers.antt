@@ -1,4 +1,4 @@
-use Rattle.std.proofs.Common.{map, sym, ◌∙◌}
+use Rattle.std.proofs.Common.{map}
 use Rattle.ooo_lexer.specs.Spans.{lexeme_at}
 use Rattle.ooo_threads.proofs.Models.{breaks_rules}
 use Rattle.ooo_threads.proofs.ready.Ready.read.Goals as goal
