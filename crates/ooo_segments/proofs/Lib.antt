@@ -4,6 +4,7 @@ pub mod Ascending
 pub mod SearchLemmas
 pub mod Where
 pub mod Within
+pub mod Soundness
 pub mod Additions
 pub mod EdgeLemmas
 pub mod Counts

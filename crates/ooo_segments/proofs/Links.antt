@@ -7,7 +7,6 @@ use Rattle.std.proofs.lemmas.List.Elements.{Contains-get_or}
 use Rattle.ooo_time.specs.declared.time.Time.{Time}
 use Rattle.ooo_time.specs.declared.delay.Delay.{Delay}
 use Rattle.ooo_time.specs.Scales.{greatest_time}
-use Rattle.ooo_value.specs.declared.bound.BoundEvent.{BoundEvent}
 use Rattle.ooo_value.specs.declared.bound.ProcessKind.{ProcessKind}
 use Rattle.ooo_value.specs.declared.bound.ProcessKind.TheVariants.{Thread, Method}
 use Rattle.ooo_code.specs.declared.design.Design.{Design}
@@ -20,12 +19,12 @@ use Rattle.ooo_code.specs.declared.segment.Segment.{Segment}
 use Rattle.ooo_code.specs.declared.segment.SegmentEntry.{SegmentEntry}
 use Rattle.ooo_code.specs.declared.segment.SegmentEntry.TheVariants.{Start, After}
 use Rattle.ooo_code.specs.Segments.{IsSegment, IsSegmentOf, entries_of}
-use Rattle.ooo_code.specs.Sound.{IsSound, FitsNode, FitsTime, Scope, scope_of}
+use Rattle.ooo_segments.specs.Closed.{AreClosed, IsBounded, WaitsBounded}
 use Rattle.ooo_segments.specs.declared.graphs.Edge.{Edge}
 use Rattle.ooo_segments.specs.Beginnings.{AreSegments}
 use Rattle.ooo_segments.specs.Edges.{one_delta, delay_after, delay_by, IsStep, IsWaitBy, EndsBefore, FollowsAs, Follows, AreEdges, IsLink}
 use Rattle.ooo_segments.proofs.Lists.{some_and}
-use Rattle.ooo_segments.proofs.Within.{process_fits, wait_of}
+use Rattle.ooo_segments.proofs.Within.{process_closed, wait_of}
 use Rattle.ooo_segments.proofs.EdgeLemmas.{edge_within}
 
 step_after : (b : Bool) (t : Time) → eqb t.0 0 ≡ b → t.0 ≤ greatest_time → IsStep (delay_after (cond b None (Some t)))
@@ -33,31 +32,31 @@ step_after true t e h = inl (refl, refl)
 step_after false t e h = let z = eqb-false t.0 0 e in inr (omega arith, h, refl)
 
 -- a wait takes a delay that an edge may have
-step_of_wait : (names : Scope) (t : Option NodeTime) (events : List ℕ) → IfSome t (FitsTime names) → IsStep (delay_by t events)
-step_of_wait names None [] h = inl (refl, refl)
-step_of_wait names (Some (time.Fixed k)) [] h = step_after (eqb k.0 0) k refl h
-step_of_wait names (Some (time.Amount e s)) [] h = inl (refl, refl)
-step_of_wait names t (e ∷ es) h = inl (refl, refl)
+step_of_wait : (t : Option NodeTime) (events : List ℕ) → IfSome t IsBounded → IsStep (delay_by t events)
+step_of_wait None [] h = inl (refl, refl)
+step_of_wait (Some (time.Fixed k)) [] h = step_after (eqb k.0 0) k refl h
+step_of_wait (Some (time.Amount e s)) [] h = inl (refl, refl)
+step_of_wait t (e ∷ es) h = inl (refl, refl)
 
-step_of_node : (names : Scope) (events : List BoundEvent) (k : NodeKind) (d : Delay) → FitsNode names events k → IsWaitBy k d → IsStep d
-step_of_node names events (kind.Wait w) d fits h = subst IsStep (sym h) (step_of_wait names w.time w.events fits.time)
-step_of_node names events k d fits h = absurd h
+step_of_node : (k : NodeKind) (d : Delay) → WaitsBounded k → IsWaitBy k d → IsStep d
+step_of_node (kind.Wait w) d bounded h = subst IsStep (sym h) (step_of_wait w.time w.events bounded)
+step_of_node k d bounded h = absurd h
 
-step_before : (design : Design) (p : ℕ) (process : Proc) (nodes : List ℕ) (entry : SegmentEntry) (d : Delay) → IsSound design → slice_get design.processes p ≡ Some process → Contains (entries_of design process) entry → EndsBefore design nodes entry d → IsStep d
-step_before design p process nodes Start d sound is entry h = absurd h
-step_before design p process nodes (After wait) d sound is entry h =
+step_before : (design : Design) (p : ℕ) (process : Proc) (nodes : List ℕ) (entry : SegmentEntry) (d : Delay) → AreClosed design → slice_get design.processes p ≡ Some process → Contains (entries_of design process) entry → EndsBefore design nodes entry d → IsStep d
+step_before design p process nodes Start d closed is entry h = absurd h
+step_before design p process nodes (After wait) d closed is entry h =
     let w = wait_of design process wait entry in
     let n = some_and (slice_get design.nodes wait) (λ node. IsWaitBy node.kind d) h.1 in
-    let fits = (process_fits design p process sound is).nodes wait n.0 w.own n.1 in
-    step_of_node (scope_of design process) design.events n.0.kind d fits.names n.2
+    let stays = (process_closed design p process closed is).nodes wait n.0 w.own n.1 in
+    step_of_node n.0.kind d stays.wait n.2
 
-step_as : (design : Design) (p : ℕ) (process : Proc) (k : ProcessKind) (from to : ℕ) (a b : Segment) (d : Delay) → IsSound design → slice_get design.processes p ≡ Some process → Contains (entries_of design process) b.entry → FollowsAs design k from to a b d → IsStep d
-step_as design p process Thread from to a b d sound is entry h = step_before design p process a.nodes b.entry d sound is entry h
-step_as design p process Method from to a b d sound is entry h = let one : Delay = one_delta in subst IsStep (sym h.1) (inl (refl, refl))
+step_as : (design : Design) (p : ℕ) (process : Proc) (k : ProcessKind) (from to : ℕ) (a b : Segment) (d : Delay) → AreClosed design → slice_get design.processes p ≡ Some process → Contains (entries_of design process) b.entry → FollowsAs design k from to a b d → IsStep d
+step_as design p process Thread from to a b d closed is entry h = step_before design p process a.nodes b.entry d closed is entry h
+step_as design p process Method from to a b d closed is entry h = let one : Delay = one_delta in subst IsStep (sym h.1) (inl (refl, refl))
 
--- all edges of a sound design
-pub all_links : (design : Design) (segments : List Segment) (edges : List Edge) → IsSound design → AreSegments design segments → AreEdges design segments edges → All (IsLink (length segments)) edges
-all_links design segments edges sound are h = λ k d lt.
+-- all edges of a closed design
+pub all_links : (design : Design) (segments : List Segment) (edges : List Edge) → AreClosed design → AreSegments design segments → AreEdges design segments edges → All (IsLink (length segments)) edges
+all_links design segments edges closed are h = λ k d lt.
     let e : Edge = get_or edges k d in
     let is = (h.exact e).0 (Contains-get_or edges k d lt) in
     let within = edge_within design segments e is in
@@ -72,5 +71,5 @@ all_links design segments edges sound are h = λ k d lt.
     record {
       from = within.0;
       to = within.1;
-      delay = step_as design a.0.process p.0 p.0.kind e.from e.to a.0 b.0 e.delay sound p.1 entry p.2;
+      delay = step_as design a.0.process p.0 p.0.kind e.from e.to a.0 b.0 e.delay closed p.1 entry p.2;
     }

@@ -1,4 +1,4 @@
--- In a sound design all nodes of a segment are nodes of its process.
+-- In closed processes all nodes of a segment are nodes of its process.
 use Rattle.std.proofs.Common.{◌≡◌, ℕ, ◌+◌, ◌-◌, ◌<◌, Bool, true, false, cond, List, [], ◌∷◌, length, map, take, drop, refl, ap, sym, ◌∙◌, subst, arith, inl, inr, Some}
 use Rattle.std.specs.Prelude.{slice_get, Contains, All}
 use Rattle.std.proofs.lemmas.Option.{slice_get-get_or, slice_get_within, get_or_from_slice_get}
@@ -14,15 +14,15 @@ use Rattle.ooo_code.specs.declared.segment.SegmentEntry.TheVariants.{Start, Afte
 use Rattle.ooo_code.specs.Nodes.{entry_node}
 use Rattle.ooo_code.specs.Segments.{Reaches, here, further, leads_to, successors, followers, is_wait, IsNodeOf, nodes_of, entries_of}
 use Rattle.ooo_code.specs.Touches.{numbers_where}
-use Rattle.ooo_code.specs.Sound.{IsSound, FitsProcess}
+use Rattle.ooo_segments.specs.Closed.{IsClosed, AreClosed}
 use Rattle.ooo_segments.proofs.Lists.{not_in_none, first_or_later, mapped_from, in_later, in_mapped}
 use Rattle.ooo_segments.proofs.Where.{passes_at, in_where}
 
--- a process of a sound design fits
-pub process_fits : (design : Design) (p : ℕ) (process : Proc) → IsSound design → slice_get design.processes p ≡ Some process → FitsProcess design process
-process_fits design p process sound is =
+-- a process by its number is closed
+pub process_closed : (design : Design) (p : ℕ) (process : Proc) → AreClosed design → slice_get design.processes p ≡ Some process → IsClosed design process
+process_closed design p process closed is =
     let lt = slice_get_within design.processes p process is in
-    subst (λ q. FitsProcess design q) (get_or_from_slice_get design.processes p process process is) (sound.processes p process lt)
+    subst (λ q. IsClosed design q) (get_or_from_slice_get design.processes p process process is) (closed p process lt)
 
 -- a node among those of a process
 pub part_is : {A : Type 0} (xs : List A) (a m k : ℕ) (x : A) → slice_get (take m (drop a xs)) k ≡ Some x → (k < m) × (slice_get xs (a + k) ≡ Some x)
@@ -89,7 +89,7 @@ after_wait process node waits all =
     All-head (IsNodeOf process) node.next [] (subst P waits all)
 
 -- a segment begins at a node of its process
-pub entry_within : (design : Design) (process : Proc) (entry : SegmentEntry) → FitsProcess design process → Contains (entries_of design process) entry → IsNodeOf process (entry_node design process entry)
+pub entry_within : (design : Design) (process : Proc) (entry : SegmentEntry) → IsClosed design process → Contains (entries_of design process) entry → IsNodeOf process (entry_node design process entry)
 entry_within design process Start fits h = record { from = omega arith; below = fits.some }
 entry_within design process (After wait) fits h =
     let w = wait_of design process wait h in
@@ -109,7 +109,7 @@ successors_within process node c all h = at (is_wait node) refl
         All-contains (IsNodeOf process) (successors node) c (subst P e all) h
 
 -- from a node of the process, only nodes of the process are reachable
-pub reached_within : (design : Design) (process : Proc) (a n : ℕ) → FitsProcess design process → IsNodeOf process a → Reaches design.nodes a n → IsNodeOf process n
+pub reached_within : (design : Design) (process : Proc) (a n : ℕ) → IsClosed design process → IsNodeOf process a → Reaches design.nodes a n → IsNodeOf process n
 reached_within design process a n fits own here = own
 reached_within design process a n fits own (further {b = b} {node = node} r is h) =
     successors_within process node n (fits.nodes b node (reached_within design process a b fits own r) is).own h

@@ -1,5 +1,6 @@
 pub mod Numbers
 pub mod Searches
+pub mod Closed
 pub mod Beginnings
 pub mod Edges
 pub mod GraphErrors

@@ -1,7 +1,7 @@
 ghost use Rattle.std.specs.Prelude.{◌≡◌, ◌<◌, ◌↔◌, length, count_by, IsTrue};
 ghost use Rattle.ooo_code.specs.Segments.{is_wait as is_wait_node};
-ghost use Rattle.ooo_code.specs.Sound.{IsSound};
 ghost use Rattle.ooo_segments.specs.Beginnings.{beginnings, greatest_segments};
+ghost use Rattle.ooo_segments.specs.Closed.{AreClosed};
 
 use crate::graphs::Graph;
 use crate::waits::is_wait;
@@ -9,7 +9,7 @@ use ooo_code::{Design, Node};
 
 // Whether a design has more segments than it may have.
 pub(crate) fn has_too_many(design: &Design) -> bool
-    requires { IsSound design.now }
+    requires { AreClosed design.now }
     ensures { IsTrue result ↔ (greatest_segments < length (beginnings design.now)) }
 {
     let mut left = Graph::GREATEST_SEGMENTS;

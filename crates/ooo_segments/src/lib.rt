@@ -4,6 +4,7 @@
 //! after one of its waits, without passing a wait), ascending, process by process, each process's start first and then its
 //! waits in order of their nodes; and exactly the edges of the definition, ascending, each with its delay. It answers
 //! `TooManySegments` exactly where a design has more than [`Graph::GREATEST_SEGMENTS`]. Else only memory can run out.
+//! [`graph_of_closed`] gives the same, and asks for less than a sound design.
 //!
 //! A design's nodes are gone through once for each segment.
 #![tactic(auto)]
@@ -20,7 +21,7 @@ mod waits;
 
 pub use error::GraphError;
 pub use graphs::{Edge, Graph};
-pub use making::graph;
+pub use making::{graph, graph_of_closed};
 pub use numbers::NumberSet;
 
 #[cfg(test)]

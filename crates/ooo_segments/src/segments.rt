@@ -1,8 +1,8 @@
 ghost use Rattle.std.specs.Prelude.{◌≡◌, ◌≤◌, [], ◌∷◌, Some, length, slice_get, Contains, IfOk, OnOk};
 ghost use Rattle.ooo_code.specs.Segments.{entries_of};
-ghost use Rattle.ooo_code.specs.Sound.{IsSound};
 ghost use Rattle.ooo_code.specs.Nodes.{entry_node as entry_node_of};
 ghost use Rattle.ooo_segments.specs.Beginnings.{beginnings, beginnings_of, greatest_segments, AreSegments, AddsSegments};
+ghost use Rattle.ooo_segments.specs.Closed.{AreClosed};
 
 use crate::searching::reached;
 use crate::waits::is_wait;
@@ -12,7 +12,7 @@ use std::alloc::{AllocError, Global};
 
 // All segments of a design, in order.
 pub(crate) fn all_segments(alloc: Global, design: &Design) -> Result<Vec<Segment>, AllocError>
-    requires sound { IsSound design.now }
+    requires closed { AreClosed design.now }
     requires few { length (beginnings design.now) ≤ greatest_segments }
     ensures { IfOk result (λ segments. AreSegments design.now segments.items) }
 {
@@ -31,7 +31,7 @@ fn add_process(
     p: u32,
     process: &Proc,
 ) -> Result<(), AllocError>
-    requires sound { IsSound design.now }
+    requires closed { AreClosed design.now }
     requires process { slice_get design.now.processes p ≡ Some process.now }
     ensures { OnOk result (AddsSegments design.now segments.old.items segments.new.items
         (beginnings_of design.now p process.now)) }
@@ -54,7 +54,7 @@ fn add_segment(
     process: &Proc,
     entry: SegmentEntry,
 ) -> Result<(), AllocError>
-    requires sound { IsSound design.now }
+    requires closed { AreClosed design.now }
     requires process { slice_get design.now.processes p ≡ Some process.now }
     requires entry { Contains (entries_of design.now process.now) entry }
     ensures { OnOk result (AddsSegments design.now segments.old.items segments.new.items

@@ -1,7 +1,6 @@
--- The edges of a sound design have delays that edges may have.
-use Rattle.ooo_segments.proofs.Links.{all_links}
+-- The processes of a sound design are closed.
+use Rattle.ooo_segments.proofs.Soundness.{sound_is_closed}
 use Rattle.ooo_segments.proofs.making.graph.Goals as goal
 
-pub returns-clause-links : goal.returns-clause-links
-returns-clause-links c =
-    rw (c.from_vec.ensures, c.from_vec-2.ensures) (all_links c.args.design.now _ _ c.requires c.in_ok-segments.ensures (rw c.as_slice.ensures.value at c.in_ok-edges.ensures))
+pub graph_of_closed-requires : goal.graph_of_closed-requires
+graph_of_closed-requires c = sound_is_closed c.args.design.now c.requires

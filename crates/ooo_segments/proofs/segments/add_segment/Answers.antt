@@ -1,14 +1,14 @@
 -- The nodes of the segment are just those that the search found.
 use Rattle.std.proofs.Common.{ℕ, ◌↔◌}
 use Rattle.ooo_code.specs.Segments.{InSegment}
-use Rattle.ooo_segments.proofs.Within.{process_fits, entry_within, reached_within}
+use Rattle.ooo_segments.proofs.Within.{process_closed, entry_within, reached_within}
 use Rattle.ooo_segments.proofs.Additions.{adds_one}
 use Rattle.ooo_segments.specs.Numbers.{IsIn}
 use Rattle.ooo_segments.proofs.segments.add_segment.Goals as goal
 
 pub reached-requires : goal.reached-requires
 reached-requires c =
-    let fits = process_fits c.args.design.now c.args.p c.args.process.now c.requires.sound c.requires.process in
+    let fits = process_closed c.args.design.now c.args.p c.args.process.now c.requires.closed c.requires.process in
     let own = entry_within c.args.design.now c.args.process.now c.args.entry fits c.requires.entry in
     rw (c.as_slice.ensures, c.entry_node-first.ensures) (λ n r. (reached_within c.args.design.now c.args.process.now _ n fits own r).below)
 
