@@ -1,0 +1,15 @@
+//! Tests of the tables of whole designs: of `ooo_segments`, `ooo_access`, `ooo_conflicts` and `ooo_advance` together.
+#![tactic(auto)]
+
+#[cfg(test)]
+mod closed;
+#[cfg(test)]
+mod designs;
+#[cfg(test)]
+mod limits;
+#[cfg(test)]
+mod sketch;
+#[cfg(test)]
+mod tables;
+#[cfg(test)]
+mod texts;
