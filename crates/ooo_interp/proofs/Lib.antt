@@ -1,6 +1,8 @@
 pub mod Acted
 pub mod Turned
 pub mod Drops
+pub mod Searched
+pub mod Ported
 pub mod Listed
 pub mod Placed
 pub mod Stable

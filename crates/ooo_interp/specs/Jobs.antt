@@ -98,6 +98,10 @@ abbrev pub number_seen : Seen → ℕ
 number_seen (seen.Signal c v changed) = c
 number_seen (seen.Fifo c values free) = c
 
+-- each channel that is seen has a lower number than the later ones
+abbrev pub SeenAscend : List Seen → Type 0
+SeenAscend sight = AllPairs (λ a b. number_seen a < number_seen b) sight
+
 -- what the segment touches that a job runs
 abbrev pub Touched : Job → Proc → Touch → Type 0
 Touched job process = Accesses job.design.value process job.frame.entry
@@ -117,7 +121,7 @@ pub record Fits (job : Job) : Type 0 where
   pub seen : All (FitsSeen job.design.value) job.seen.items
   pub owned_ascends : IsAscending job.owned.items
   pub copied_ascends : IsAscending job.copied.items
-  pub seen_ascends : AllPairs (λ a b. number_seen a < number_seen b) job.seen.items
+  pub seen_ascends : SeenAscend job.seen.items
   pub apart : (x : ℕ) → IsSome (listed job.owned.items x) → ¬ IsSome (listed job.copied.items x)
 
 -- ---- what a job gives

@@ -1,4 +1,4 @@
-ghost use Rattle.std.specs.Prelude.{◌≡◌, OnOk};
+ghost use Rattle.std.specs.Prelude.{◌≡◌, [], None, OnOk};
 ghost use Rattle.ooo_code.specs.Expressions.{Sight};
 ghost use Rattle.ooo_code.specs.Nodes.{with_effect};
 ghost use Rattle.ooo_interp.specs.Acting.{GoesWith, doing_of};
@@ -7,7 +7,7 @@ use ooo_code::{Effect, Proc, SegmentEntry};
 use ooo_time::{Stamp, Time};
 use ooo_value::Fault;
 use sqlite_items::Items;
-use std::alloc::AllocError;
+use std::alloc::{AllocError, Global};
 
 /// The process that acts, the entry of the segment that it runs, and the stamp at which.
 #[derive(Debug, Drop)]
@@ -15,6 +15,46 @@ pub struct Activation<'a> {
     pub process: &'a Proc,
     pub entry: SegmentEntry,
     pub stamp: Stamp,
+}
+
+/// Two vectors in which the output and the effects of an activation grow. What they hold is dropped as it begins; their
+/// memory is used again.
+#[derive(Drop)]
+pub struct Room {
+    pub output: Vec<u8>,
+    pub effects: Vec<Effect>,
+}
+
+impl Room {
+    /// No room yet. It takes no memory.
+    pub fn new(alloc: Global) -> Room
+        ensures output { result.output.items ≡ [] }
+        ensures effects { result.effects.items ≡ [] }
+    {
+        Room {
+            output: Vec::new(alloc),
+            effects: Vec::new(alloc),
+        }
+    }
+
+    // What an activation made as it begins: nothing.
+    pub(crate) fn begin<'a>(self) -> Made<'a>
+        ensures output { result.output.items ≡ [] }
+        ensures effects { result.effects.items ≡ [] }
+        ensures trigger { result.trigger ≡ None }
+    {
+        let Room {
+            mut output,
+            mut effects,
+        } = self;
+        output.clear();
+        effects.clear();
+        Made {
+            output,
+            effects,
+            trigger: None,
+        }
+    }
 }
 
 /// What an activation made so far: its output, its effects in order, and what its method waits for next, where that

@@ -2,7 +2,7 @@ ghost use Rattle.std.specs.Prelude.{◌≡◌, slice_get, slice_set, None, Some,
 ghost use Rattle.ooo_interp.specs.Carrying.{IsAscending, listed, put_in, with_listed};
 
 use crate::parts::Lent;
-use crate::ports::{Port, fifo_at, put_at, signal_at, take_at};
+use crate::ports::Ports;
 use ooo_code::Cells;
 use ooo_value::Value;
 use sqlite_items::Items;
@@ -14,7 +14,7 @@ pub struct JobParts {
     pub slots: Items<Value>,
     pub owned: Vec<(u32, Cells)>,
     pub copied: Vec<(u32, Cells)>,
-    pub ports: Vec<Port>,
+    pub ports: Ports,
     /// How many variables the design has.
     pub count: usize,
     ghost owned_ascending: { IsAscending owned.items },
@@ -29,7 +29,7 @@ impl Lent for JobParts {
     ghost sight = { λ p. record {
       slots = p.slots;
       variables = all_cells p.count p.owned.items p.copied.items;
-      seen = all_shown p.ports.items;
+      seen = all_shown p.ports;
     } };
 
     ghost Kept = { List ℕ × ℕ };
@@ -54,25 +54,25 @@ impl Lent for JobParts {
     }
 
     fn signal(&self, channel: u32) -> (Value, bool) {
-        signal_at(&self.ports, channel)
+        self.ports.signal(channel)
     }
 
     fn first(&self, channel: u32) -> Option<Value> {
-        match fifo_at(&self.ports, channel) {
+        match self.ports.fifo(channel) {
             Some(fifo) => fifo.first(),
             None => None,
         }
     }
 
     fn available(&self, channel: u32) -> i32 {
-        match fifo_at(&self.ports, channel) {
+        match self.ports.fifo(channel) {
             Some(fifo) => fifo.available(),
             None => 0,
         }
     }
 
     fn free(&self, channel: u32) -> i32 {
-        match fifo_at(&self.ports, channel) {
+        match self.ports.fifo(channel) {
             Some(fifo) => fifo.free(),
             None => 0,
         }
@@ -92,11 +92,11 @@ impl Lent for JobParts {
     }
 
     fn take(&mut self, channel: u32) {
-        take_at(&mut self.ports, channel);
+        self.ports.take(channel);
     }
 
     fn put(&mut self, channel: u32) {
-        put_at(&mut self.ports, channel);
+        self.ports.put(channel);
     }
 }
 

@@ -1,82 +1,158 @@
-ghost use Rattle.std.specs.Prelude.{◌≡◌, [], ◌∷◌, MatchOption};
+ghost use Rattle.std.specs.Prelude.{◌≡◌, ◌≢◌, ◌<◌, ◌↔◌, ◌++◌, [], ◌∷◌, slice_get, All, IfOk, OnErr, OnOk, IsSomeAnd, IsTrue, MatchOption};
 ghost use Rattle.ooo_code.specs.Expressions.{fifo_seen, signal_seen};
 ghost use Rattle.ooo_code.specs.Nodes.{seen_after_put, seen_after_take};
-ghost use Rattle.ooo_interp.specs.Ports.{all_shown, fifo_shown, shown};
+ghost use Rattle.ooo_interp.specs.Ports.{PortsAscend, ShowAlike, ShowsIts, all_shown, channel_of, fifo_shown, less_one_slot, less_one_value, shown};
 
 use crate::fifo_port::FifoPort;
+use crate::port::Port;
 use ooo_value::Value;
+use std::alloc::{AllocError, Global};
+use std::marker::Model;
 
-/// What a process sees of a channel, and what it did to that itself.
+/// What a process sees of channels: a port for each, ascending by the channels' numbers.
 #[derive(Drop)]
-pub enum Port {
-    /// A signal's number and value, and whether it changed in the delta cycle before.
-    Signal(u32, Value, bool),
-    Fifo(FifoPort),
+pub struct Ports {
+    items: Vec<Port>,
 }
 
-// The value of a signal, and whether it changed.
-pub(crate) fn signal_at(ports: &[Port], channel: u32) -> (Value, bool)
-    ensures value { result.0 ≡ (signal_seen (all_shown ports.now) channel).value }
-    ensures changed { result.1 ≡ (signal_seen (all_shown ports.now) channel).changed }
-{
-    match ports {
-        [] => (Value::Int(0), false),
-        [Port::Signal(d, v, changed), ..] if channel == *d => (*v, *changed),
-        [_, rest @ ..] => signal_at(rest, channel),
+impl Model for Ports {
+    ghost use Rattle.std.specs.Prelude.{List};
+    ghost use Rattle.ooo_interp.specs.Ports.{PortsAscend};
+    ghost use Rattle.ooo_interp.specs.declared.port.Port.{Port as PortSpec};
+
+    ghost Value = { List PortSpec };
+
+    ghost view = { λ p. p.items.items };
+
+    ghost invariant = { λ p. PortsAscend p.items.items };
+}
+
+impl Ports {
+    /// No ports. It takes no memory.
+    pub fn new(alloc: Global) -> Ports
+        ensures { result ≡ [] }
+    {
+        Ports {
+            items: Vec::new(alloc),
+        }
     }
-}
 
-// The port of a fifo.
-pub(crate) fn fifo_at(ports: &[Port], channel: u32) -> Option<&FifoPort>
-    ensures { MatchOption result
-        (fifo_seen (all_shown ports.now) channel ≡ record { values = []; free = 0 })
-        (λ f. fifo_seen (all_shown ports.now) channel ≡ fifo_shown f.now) }
-{
-    match ports {
-        [] => None,
-        [Port::Fifo(f), ..] if channel == f.channel() => Some(f),
-        [_, rest @ ..] => fifo_at(rest, channel),
+    /// No ports, with room for so many.
+    ///
+    /// # Errors
+    ///
+    /// Only where memory runs out.
+    pub fn with_capacity(alloc: Global, count: usize) -> Result<Ports, AllocError>
+        ensures { IfOk result (λ ports. ports ≡ []) }
+    {
+        let items = Vec::with_capacity(alloc, count)?;
+        Ok(Ports { items })
     }
-}
 
-// Takes a value of a fifo.
-pub(crate) fn take_at(ports: &mut [Port], channel: u32)
-    ensures { all_shown ports.new ≡ seen_after_take (all_shown ports.old) channel }
-{
-    if !ports.is_empty() {
-        take_of(&mut ports[0], channel);
-        take_at(&mut ports[1..], channel);
+    /// Whether all of its channels have lower numbers.
+    pub fn is_below(&self, channel: u32) -> bool
+        ensures { IsTrue result ↔ All (λ p. channel_of p < channel) self.now }
+    {
+        match self.items.last() {
+            Some(last) => last.channel() < channel,
+            None => true,
+        }
     }
-}
 
-// Takes a value where the port is of this fifo.
-fn take_of(port: &mut Port, channel: u32)
-    ensures { shown port.new ∷ [] ≡ seen_after_take (shown port.old ∷ []) channel }
-{
-    if let Port::Fifo(f) = port {
-        if channel == f.channel() {
-            f.take();
+    /// Adds a port of a channel with a greater number.
+    ///
+    /// # Errors
+    ///
+    /// Only where memory runs out; the ports are then as before.
+    pub fn push(&mut self, port: Port) -> Result<(), AllocError>
+        requires { All (λ p. channel_of p < channel_of port) self.old }
+        ensures ok { OnOk result (self.new ≡ self.old ++ port ∷ []) }
+        ensures err { OnErr result (self.new ≡ self.old) }
+    {
+        self.items.push(port)?;
+        Ok(())
+    }
+
+    // The value of a signal, and whether it changed.
+    pub(crate) fn signal(&self, channel: u32) -> (Value, bool)
+        ensures value { result.0 ≡ (signal_seen (all_shown self.now) channel).value }
+        ensures changed { result.1 ≡ (signal_seen (all_shown self.now) channel).changed }
+    {
+        match self.of(channel) {
+            Some(Port::Signal(_, v, changed)) => (*v, *changed),
+            Some(Port::Fifo(_)) | None => (Value::Int(0), false),
+        }
+    }
+
+    // The port of a fifo.
+    pub(crate) fn fifo(&self, channel: u32) -> Option<&FifoPort>
+        ensures { MatchOption result
+            (fifo_seen (all_shown self.now) channel ≡ record { values = []; free = 0 })
+            (λ f. fifo_seen (all_shown self.now) channel ≡ fifo_shown f.now) }
+    {
+        match self.of(channel) {
+            Some(Port::Fifo(fifo)) => Some(fifo),
+            Some(Port::Signal(_, _, _)) | None => None,
+        }
+    }
+
+    // The port of a channel.
+    fn of(&self, channel: u32) -> Option<&Port>
+        ensures { MatchOption result (ShowAlike channel self.now [])
+            (λ p. ShowsIts channel self.now p.now) }
+    {
+        match place_of(&self.items, channel) {
+            Some(at) => Some(&self.items[at]),
+            None => None,
+        }
+    }
+
+    // Takes a value of a fifo.
+    pub(crate) fn take(&mut self, channel: u32)
+        ensures { all_shown self.new ≡ seen_after_take (all_shown self.old) channel }
+    {
+        if let Some(at) = place_of(&self.items, channel) {
+            take_of(&mut self.items[at]);
+        }
+    }
+
+    // Fills a slot of a fifo.
+    pub(crate) fn put(&mut self, channel: u32)
+        ensures { all_shown self.new ≡ seen_after_put (all_shown self.old) channel }
+    {
+        if let Some(at) = place_of(&self.items, channel) {
+            put_of(&mut self.items[at]);
         }
     }
 }
 
-// Fills a slot of a fifo.
-pub(crate) fn put_at(ports: &mut [Port], channel: u32)
-    ensures { all_shown ports.new ≡ seen_after_put (all_shown ports.old) channel }
+// Where the port of a channel stands.
+fn place_of(ports: &[Port], channel: u32) -> Option<usize>
+    requires { PortsAscend ports.now }
+    ensures { MatchOption result (All (λ p. channel_of p ≢ channel) ports.now)
+        (λ at. IsSomeAnd (slice_get ports.now at) (λ p. channel_of p ≡ channel)) }
 {
-    if !ports.is_empty() {
-        put_of(&mut ports[0], channel);
-        put_at(&mut ports[1..], channel);
+    ports
+        .binary_search_by_key(&channel, |port| port.channel())
+        .ok()
+}
+
+// Takes a value, where the port is of a fifo.
+fn take_of(port: &mut Port)
+    ensures channel { channel_of port.new ≡ channel_of port.old }
+    ensures shown { shown port.new ≡ less_one_value (shown port.old) }
+{
+    if let Port::Fifo(fifo) = port {
+        fifo.take();
     }
 }
 
-// Fills a slot where the port is of this fifo.
-fn put_of(port: &mut Port, channel: u32)
-    ensures { shown port.new ∷ [] ≡ seen_after_put (shown port.old ∷ []) channel }
+// Fills a slot, where the port is of a fifo.
+fn put_of(port: &mut Port)
+    ensures channel { channel_of port.new ≡ channel_of port.old }
+    ensures shown { shown port.new ≡ less_one_slot (shown port.old) }
 {
-    if let Port::Fifo(f) = port {
-        if channel == f.channel() {
-            f.put();
-        }
+    if let Port::Fifo(fifo) = port {
+        fifo.put();
     }
 }

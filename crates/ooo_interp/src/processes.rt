@@ -4,7 +4,7 @@ ghost use Rattle.ooo_interp.specs.Acting.{wait_of};
 ghost use Rattle.ooo_interp.specs.Jobs.{activation_of, ran_on};
 ghost use Rattle.ooo_interp.specs.Running.{ended_by};
 
-use crate::doing::{Activation, Made, Pause};
+use crate::doing::{Activation, Made, Pause, Room};
 use crate::parts::Lent;
 use crate::running::{End, run_nodes};
 use ooo_code::{Design, Effect, JobEnd, Proc, SegmentEntry, WaitOn};
@@ -33,7 +33,8 @@ pub struct Ran {
     pub end: JobEnd,
 }
 
-/// Runs an activation of a process on lent parts. A process that there isn't does nothing.
+/// Runs an activation of a process on lent parts. A process that there isn't does nothing. Output and effects grow in
+/// the room that is handed in, and what it answers holds them: it can be handed in again.
 ///
 /// # Errors
 ///
@@ -43,16 +44,13 @@ pub fn run_process<L: Lent>(
     lent: &mut L,
     design: &Design,
     start: Start,
+    room: Room,
 ) -> Result<Ran, AllocError>
     ensures does { IfOk result (λ ran.
         activation_of design.now start (L.sight lent.old) ≡ ran_on ran (L.sight lent.new)) }
     ensures kept { L.kept lent.new ≡ L.kept lent.old }
 {
-    let mut made = Made {
-        output: Vec::new(alloc),
-        effects: Vec::new(alloc),
-        trigger: None,
-    };
+    let mut made = room.begin();
     let Some(process) = at(design.processes.as_slice(), start.process as usize) else {
         return Ok(come_to(made, start.entry, JobEnd::Ended));
     };

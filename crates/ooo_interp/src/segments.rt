@@ -1,12 +1,14 @@
 ghost use Rattle.std.specs.Prelude.{◌≡◌, IfOk, All};
 ghost use Rattle.ooo_code.specs.Outcomes.{View};
-ghost use Rattle.ooo_interp.specs.Jobs.{Fits, IsFew, IsOf, IsPartOf, done_on, job_on};
+ghost use Rattle.ooo_interp.specs.Jobs.{Fits, IsFew, IsOf, IsPartOf, SeenAscend, done_on, job_on};
 ghost use Rattle.ooo_interp.specs.Ports.{all_shown, shown};
 
+use crate::doing::Room;
 use crate::fifo_port::FifoPort;
 use crate::job::{Done, Job};
 use crate::job_parts::JobParts;
-use crate::ports::Port;
+use crate::port::Port;
+use crate::ports::Ports;
 use crate::processes::{Start, run_process};
 use ooo_code::law::{changes_what_is_touched, reads_what_is_touched};
 use ooo_code::{Frame, Seen};
@@ -50,7 +52,7 @@ pub fn run_segment(alloc: Global, job: Job) -> Result<Done, AllocError>
         stamp,
         statements,
     };
-    let ran = run_process(alloc, &mut parts, &design, start)?;
+    let ran = run_process(alloc, &mut parts, &design, start, Room::new(alloc))?;
     Ok(Done {
         process,
         activation,
@@ -66,11 +68,12 @@ pub fn run_segment(alloc: Global, job: Job) -> Result<Done, AllocError>
 }
 
 // A port for each channel that is seen.
-fn ports_of(alloc: Global, seen: Vec<Seen>) -> Result<Vec<Port>, AllocError>
-    requires { All IsFew seen.items }
-    ensures { IfOk result (λ ports. all_shown ports.items ≡ seen.items) }
+fn ports_of(alloc: Global, seen: Vec<Seen>) -> Result<Ports, AllocError>
+    requires few { All IsFew seen.items }
+    requires ascending { SeenAscend seen.items }
+    ensures { IfOk result (λ ports. all_shown ports ≡ seen.items) }
 {
-    let mut ports = Vec::with_capacity(alloc, seen.len())?;
+    let mut ports = Ports::with_capacity(alloc, seen.len())?;
     for channel in seen {
         ports.push(port_of(channel))?;
     }

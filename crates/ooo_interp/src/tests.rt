@@ -8,7 +8,7 @@ mod node_kinds;
 mod segments;
 mod waits;
 
-use crate::{FifoPort, Port, Ran, Start, Whole, run_process};
+use crate::{FifoPort, Port, Ports, Ran, Room, Start, Whole, run_process};
 use ooo_code::{Cells, Design, JobEnd, Node, NodeExpr, NodeKind, Proc, SegmentEntry, WaitOn};
 use ooo_time::{Stamp, Time};
 use ooo_value::{Fault, Op, ProcessKind, Value};
@@ -136,7 +136,7 @@ pub fn locals(alloc: Global, values: &[i32]) -> Result<Whole, AllocError> {
     Ok(Whole {
         slots,
         variables: Vec::new(alloc),
-        ports: Vec::new(alloc),
+        ports: Ports::new(alloc),
     })
 }
 
@@ -148,6 +148,12 @@ pub fn fifo(rt: &impl Abort, channel: u32, values: Vec<Value>, free: u32) -> Por
     Port::Fifo(FifoPort::new(channel, values, free))
 }
 
+/// Adds a port of a channel with a greater number than those that there are.
+pub fn add_port(rt: &impl Abort, parts: &mut Whole, port: Port) -> Result<(), AllocError> {
+    assert!(rt; parts.ports.is_below(port.channel()));
+    parts.ports.push(port)
+}
+
 /// Runs the process of a design from an entry, at 10 ns.
 pub fn run_from(
     alloc: Global,
@@ -156,7 +162,13 @@ pub fn run_from(
     entry: SegmentEntry,
     statements: u32,
 ) -> Result<Ran, AllocError> {
-    let start = Start {
+    let start = start_from(entry, statements);
+    run_process(alloc, parts, design, start, Room::new(alloc))
+}
+
+/// The first process from an entry, at 10 ns.
+pub fn start_from(entry: SegmentEntry, statements: u32) -> Start {
+    Start {
         process: 0,
         entry,
         stamp: Stamp {
@@ -164,8 +176,7 @@ pub fn run_from(
             delta: 0,
         },
         statements,
-    };
-    run_process(alloc, parts, design, start)
+    }
 }
 
 /// Whether an activation printed this text.

@@ -2,7 +2,7 @@ ghost use Rattle.std.specs.Prelude.{◌≡◌, slice_set};
 
 use crate::job_parts::set_item;
 use crate::parts::Lent;
-use crate::ports::{Port, fifo_at, put_at, signal_at, take_at};
+use crate::ports::Ports;
 use ooo_code::Cells;
 use ooo_value::Value;
 
@@ -11,7 +11,7 @@ use ooo_value::Value;
 pub struct Whole {
     pub slots: Vec<Value>,
     pub variables: Vec<Cells>,
-    pub ports: Vec<Port>,
+    pub ports: Ports,
 }
 
 impl Lent for Whole {
@@ -20,7 +20,7 @@ impl Lent for Whole {
     ghost sight = { λ w. record {
       slots = w.slots.items;
       variables = w.variables.items;
-      seen = all_shown w.ports.items;
+      seen = all_shown w.ports;
     } };
 
     ghost kept = { λ w. tt };
@@ -39,25 +39,25 @@ impl Lent for Whole {
     }
 
     fn signal(&self, channel: u32) -> (Value, bool) {
-        signal_at(&self.ports, channel)
+        self.ports.signal(channel)
     }
 
     fn first(&self, channel: u32) -> Option<Value> {
-        match fifo_at(&self.ports, channel) {
+        match self.ports.fifo(channel) {
             Some(fifo) => fifo.first(),
             None => None,
         }
     }
 
     fn available(&self, channel: u32) -> i32 {
-        match fifo_at(&self.ports, channel) {
+        match self.ports.fifo(channel) {
             Some(fifo) => fifo.available(),
             None => 0,
         }
     }
 
     fn free(&self, channel: u32) -> i32 {
-        match fifo_at(&self.ports, channel) {
+        match self.ports.fifo(channel) {
             Some(fifo) => fifo.free(),
             None => 0,
         }
@@ -75,11 +75,11 @@ impl Lent for Whole {
     }
 
     fn take(&mut self, channel: u32) {
-        take_at(&mut self.ports, channel);
+        self.ports.take(channel);
     }
 
     fn put(&mut self, channel: u32) {
-        put_at(&mut self.ports, channel);
+        self.ports.put(channel);
     }
 }
 

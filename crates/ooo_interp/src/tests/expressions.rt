@@ -1,6 +1,6 @@
 //! What each form of expression gives.
 
-use super::{Code, MANY, binary, cells, fifo, int, ints, locals, printed};
+use super::{Code, MANY, add_port, binary, cells, fifo, int, ints, locals, printed};
 use crate::{Port, Whole};
 use ooo_code::{NodeExpr, NodeKind};
 use ooo_value::{Kind, Op, Value};
@@ -15,9 +15,9 @@ fn parts(rt: &impl Abort, alloc: Global) -> Result<Whole, AllocError> {
     let mut parts = locals(alloc, &[8])?;
     parts.variables.push(cells(alloc, &[5])?)?;
     parts.variables.push(cells(alloc, &[1, 2, 3])?)?;
-    parts.ports.push(Port::Signal(0, Value::Int(7), false))?;
+    add_port(rt, &mut parts, Port::Signal(0, Value::Int(7), false))?;
     let values = ints(alloc, &[4, 6])?;
-    parts.ports.push(fifo(rt, 1, values, 3))?;
+    add_port(rt, &mut parts, fifo(rt, 1, values, 3))?;
     Ok(parts)
 }
 

@@ -1,6 +1,6 @@
 //! Takes and puts behind a process's own.
 
-use super::{Code, MANY, are_ints, binary, fifo, int, ints, is_over, locals, printed};
+use super::{Code, MANY, add_port, are_ints, binary, fifo, int, ints, is_over, locals, printed};
 use ooo_code::{Effect, NodeExpr, NodeKind};
 use ooo_value::{Op, Value};
 use std::alloc::{AllocError, Global};
@@ -36,8 +36,8 @@ fn sees_its_own_takes_and_puts(rt: HostRuntime) -> Result<(), Fail> {
     let alloc = rt.alloc();
     let mut parts = locals(alloc, &[0, 0])?;
     let values = ints(alloc, &[4, 6])?;
-    parts.ports.push(fifo(&rt, 0, values, 0))?;
-    parts.ports.push(fifo(&rt, 1, Vec::new(alloc), 1))?;
+    add_port(&rt, &mut parts, fifo(&rt, 0, values, 0))?;
+    add_port(&rt, &mut parts, fifo(&rt, 1, Vec::new(alloc), 1))?;
     let ran = two_takes_and_a_put(alloc)?.run(&mut parts, MANY)?;
     assert!(rt; printed(&ran, "00"));
     assert!(rt; are_ints(&parts.slots, &[4, 6]));
@@ -47,6 +47,62 @@ fn sees_its_own_takes_and_puts(rt: HostRuntime) -> Result<(), Fail> {
         Effect::Put(1, Value::Int(10)),
     ];
     assert_eq!(rt; ran.effects.as_slice(), effects.as_slice());
+    Ok(())
+}
+
+/// Puts 1 and 2 into fifo 0 while it has free slots, and prints how many are left, or that there were more or fewer.
+fn two_puts(alloc: Global) -> Result<Code, AllocError> {
+    let mut code = Code::new(alloc);
+    code.counted(NodeKind::TestFree(0, 7), 1, 1)?;
+    code.passed(NodeKind::Put(0, int(1)), 2)?;
+    code.counted(NodeKind::TestFree(0, 7), 2, 3)?;
+    code.passed(NodeKind::Put(0, int(2)), 4)?;
+    code.counted(NodeKind::TestFree(0, 6), 3, 5)?;
+    code.says("more than two", 4, 8)?;
+    code.passed(NodeKind::PrintValue(NodeExpr::Free(0)), 8)?;
+    code.says("fewer than two", 5, 8)?;
+    code.passed(NodeKind::End, 0)?;
+    Ok(code)
+}
+
+#[test]
+fn a_put_fills_a_slot_for_the_next(rt: HostRuntime) -> Result<(), Fail> {
+    let alloc = rt.alloc();
+    for (free, text, count) in [
+        (0, "fewer than two", 0),
+        (1, "fewer than two", 1),
+        (2, "0", 2),
+        (3, "more than two", 2),
+    ] {
+        let mut parts = locals(alloc, &[])?;
+        add_port(&rt, &mut parts, fifo(&rt, 0, Vec::new(alloc), free))?;
+        let ran = two_puts(alloc)?.run(&mut parts, MANY)?;
+        assert!(rt; printed(&ran, text));
+        let puts = [Effect::Put(0, Value::Int(1)), Effect::Put(0, Value::Int(2))];
+        assert!(rt; count <= puts.len());
+        assert_eq!(rt; ran.effects.as_slice(), &puts[..count]);
+    }
+    Ok(())
+}
+
+/// Takes from fifo 0 into local 0, without a test, and prints that.
+fn untested_take(alloc: Global) -> Result<Code, AllocError> {
+    let mut code = Code::new(alloc);
+    code.passed(NodeKind::Take(0, 0), 1)?;
+    code.passed(NodeKind::PrintValue(NodeExpr::Slot(0)), 2)?;
+    code.passed(NodeKind::End, 0)?;
+    Ok(code)
+}
+
+// A process that takes where nothing is available has no effect by that.
+#[test]
+fn nothing_is_taken_of_an_empty_fifo(rt: HostRuntime) -> Result<(), Fail> {
+    let alloc = rt.alloc();
+    let mut parts = locals(alloc, &[3])?;
+    add_port(&rt, &mut parts, fifo(&rt, 0, Vec::new(alloc), 2))?;
+    let ran = untested_take(alloc)?.run(&mut parts, MANY)?;
+    assert!(rt; printed(&ran, "3"));
+    assert!(rt; ran.effects.is_empty());
     Ok(())
 }
 
@@ -67,7 +123,7 @@ fn a_full_fifo_of_the_greatest_size_is_read(rt: HostRuntime) -> Result<(), Fail>
     let alloc = rt.alloc();
     let values = (0..65_536u32).map(|n| Value::Uint(n)).collect(alloc)?;
     let mut parts = locals(alloc, &[0, 0])?;
-    parts.ports.push(fifo(&rt, 0, values, 0))?;
+    add_port(&rt, &mut parts, fifo(&rt, 0, values, 0))?;
     let ran = counting(alloc)?.run(&mut parts, 65_536)?;
     assert!(rt; is_over(&ran.end));
     assert!(rt; printed(&ran, "65535"));

@@ -1,10 +1,13 @@
 //! One small design a kind of node.
 
-use super::{Code, MANY, are_ints, binary, cells, has_cells, int, is_over, locals, printed};
-use crate::Port;
-use ooo_code::{Effect, NodeExpr, NodeKind, NodeTime};
+use super::{
+    Code, MANY, add_port, are_ints, binary, cells, has_cells, int, is_over, locals, printed,
+    start_from,
+};
+use crate::{Port, Ran, Room, run_process};
+use ooo_code::{Design, Effect, NodeExpr, NodeKind, NodeTime, SegmentEntry};
 use ooo_time::{Scale, Time};
-use ooo_value::{Op, Value};
+use ooo_value::{Op, ProcessKind, Value};
 use sqlite_items::Boxed;
 use std::alloc::{AllocError, Global};
 use std::test::Fail;
@@ -108,6 +111,37 @@ fn has_effects_in_order(rt: HostRuntime) -> Result<(), Fail> {
     Ok(())
 }
 
+fn printing_and_stopping(alloc: Global) -> Result<Design, AllocError> {
+    let mut code = Code::new(alloc);
+    code.says("x", 1, 1)?;
+    code.counted(NodeKind::Stop, 2, 2)?;
+    code.passed(NodeKind::End, 0)?;
+    code.design(ProcessKind::Thread)
+}
+
+// What the room held is neither printed nor done again.
+#[test]
+fn uses_a_room_again(rt: HostRuntime) -> Result<(), Fail> {
+    let alloc = rt.alloc();
+    let design = printing_and_stopping(alloc)?;
+    let start = start_from(SegmentEntry::Start, MANY);
+    let mut parts = locals(alloc, &[])?;
+    let mut room = Room::new(alloc);
+    for _ in 0..3 {
+        let ran = run_process(alloc, &mut parts, &design, start, room)?;
+        assert!(rt; printed(&ran, "x"));
+        assert_eq!(rt; ran.effects.as_slice(), [Effect::Stop].as_slice());
+        let Ran {
+            entry: _,
+            output,
+            effects,
+            end: _,
+        } = ran;
+        room = Room { output, effects };
+    }
+    Ok(())
+}
+
 fn reading_signals(alloc: Global) -> Result<Code, AllocError> {
     let mut code = Code::new(alloc);
     code.passed(NodeKind::PrintValue(NodeExpr::Signal(4)), 1)?;
@@ -124,8 +158,8 @@ fn reading_signals(alloc: Global) -> Result<Code, AllocError> {
 fn reads_signals(rt: HostRuntime) -> Result<(), Fail> {
     let alloc = rt.alloc();
     let mut parts = locals(alloc, &[])?;
-    parts.ports.push(Port::Signal(4, Value::Bool(true), true))?;
-    parts.ports.push(Port::Signal(6, Value::Int(-9), false))?;
+    add_port(&rt, &mut parts, Port::Signal(4, Value::Bool(true), true))?;
+    add_port(&rt, &mut parts, Port::Signal(6, Value::Int(-9), false))?;
     let ran = reading_signals(alloc)?.run(&mut parts, MANY)?;
     assert!(rt; printed(&ran, "1110-90"));
     Ok(())

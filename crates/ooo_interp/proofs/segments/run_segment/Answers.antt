@@ -6,7 +6,7 @@ use Rattle.ooo_interp.proofs.JobLemmas.{all_few, as_carried, on_view}
 use Rattle.ooo_interp.proofs.segments.run_segment.Goals as goal
 
 pub ports_of-requires : goal.ports_of-requires
-ports_of-requires c = all_few c.args.job c.requires
+ports_of-requires c = record { few = all_few c.args.job c.requires; ascending = c.requires.seen_ascends }
 
 pub returns : goal.returns
 returns c =
