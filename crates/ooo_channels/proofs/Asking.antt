@@ -29,7 +29,7 @@ fifo_has k (state.Signal s) is h = absurd h
 fifo_has k (state.Fifo s) is h = is
 
 -- the calls on an event of a channel
-calls_by-channel : (ops : Operations) (e : ℕ) (k : BoundEvent) → k ≢ event.Own → calls_by ops e k ≡ channel_calls ops k
+pub calls_by-channel : (ops : Operations) (e : ℕ) (k : BoundEvent) → k ≢ event.Own → calls_by ops e k ≡ channel_calls ops k
 calls_by-channel ops e event.Own ne = absurd (ne refl)
 calls_by-channel ops e (event.Changed c) ne = refl
 calls_by-channel ops e (event.Rise c) ne = refl

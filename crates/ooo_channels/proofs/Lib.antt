@@ -13,3 +13,14 @@ pub mod Applying
 pub mod Asking
 pub mod Values
 pub mod Reserving
+pub mod Apart
+pub mod Slots
+pub mod Firsts
+pub mod Cores
+pub mod Agreeing
+pub mod Ahead
+pub mod Reaching
+pub mod Settling
+pub mod Beginning
+pub mod Showing
+pub mod Trials

@@ -52,7 +52,7 @@ channel_calls-after ops at f k =
     (ap (λ y. cycle_step (channel_of k) y (operation at f)) (cycle-notified_by ops k) ∙ sym (cycle_of-after ops at f (channel_of k)))
 
 -- an effect that isn't on an event's channel doesn't bear on the event
-bears_not : (k : BoundEvent) (f : Effect) → is_on (channel_of k) f ≡ false → bears_on k f ≡ false
+pub bears_not : (k : BoundEvent) (f : Effect) → is_on (channel_of k) f ≡ false → bears_on k f ≡ false
 bears_not event.Own f e = refl
 bears_not (event.Changed c) (effect.Request d v) e = e
 bears_not (event.Changed c) (effect.Put d v) e = refl

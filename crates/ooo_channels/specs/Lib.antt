@@ -6,3 +6,6 @@ pub mod Conditions
 pub mod Room
 pub mod Kept
 pub mod Bank
+pub mod Apart
+pub mod Agreement
+pub mod Trials

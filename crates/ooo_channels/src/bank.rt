@@ -9,6 +9,7 @@ ghost use Rattle.ooo_channels.specs.Calls.{FiresAt, channel_of};
 ghost use Rattle.ooo_code.specs.declared.activation.Effect.TheVariants as effect;
 ghost use Rattle.ooo_value.specs.declared.bound.BoundEvent.TheVariants as event;
 ghost use Rattle.ooo_channels.specs.Conditions.{HasChannel, HasEventAt, Names, MayApply, MayApplyAll, IsCountableStamp};
+ghost use Rattle.ooo_channels.specs.Apart.{LeavesOthers, AreAllSame};
 ghost use Rattle.ooo_channels.specs.Bank.{IsBankAfter, Covers, Applies, HasMoreRoom, HasRoomFor, AreFirst, AreNew};
 
 use crate::channel::ChannelState;
@@ -162,6 +163,9 @@ impl Bank {
         ensures after { (ops : Operations) → IsBankAfter self.old ops → MayApplyAll ops at effects.now →
             IsBankAfter self.new (after_effects at ops effects.now) }
 
+        // What the effects don't name answers as before.
+        ensures others { (ops : Operations) → LeavesOthers at ops effects.now }
+
         // The room for more effects is left.
         ensures room { (more : List EffectSpec) → Covers self.old (effects.now ++ more) →
             Covers self.new more }
@@ -176,6 +180,7 @@ impl Bank {
     pub fn forget(&mut self, below: Stamp)
         ensures after { (ops : Operations) → IsBankAfter self.old ops →
             IsBankAfter self.new (after_forgetting below ops) }
+        ensures others { (ops : Operations) → AreAllSame ops (after_forgetting below ops) }
         ensures room { (more : List EffectSpec) → Covers self.old more → Covers self.new more }
     {
         if self.below.is_before(below) {

@@ -6,7 +6,10 @@
 mod bank;
 mod channel;
 mod fifo;
+pub mod law;
 mod notices;
 mod signal;
+#[cfg(test)]
+mod tests;
 
 pub use bank::Bank;

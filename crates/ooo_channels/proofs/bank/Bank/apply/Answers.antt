@@ -1,5 +1,6 @@
 use Rattle.std.proofs.Common.{take}
 use Rattle.ooo_channels.specs.Operations.{after_effects}
+use Rattle.ooo_channels.proofs.Apart.{others_left}
 use Rattle.ooo_channels.proofs.Applying.{applied_none, next_room, next_may, applied_more, applied_all, room_after}
 use Rattle.ooo_channels.proofs.bank.Bank.apply.Goals as goal
 
@@ -29,3 +30,6 @@ returns-clause-after c = applied_all c.args.self.now c.loop-effect.self c.args.a
 
 pub returns-clause-room : goal.returns-clause-room
 returns-clause-room c = room_after c.args.self.now c.loop-effect.self c.args.at c.args.effects.now c.loop-effect.effect-index c.loop-effect-test.false c.loop-effect.invariant
+
+pub returns-clause-others : goal.returns-clause-others
+returns-clause-others c = λ ops. others_left c.args.at ops c.args.effects.now
