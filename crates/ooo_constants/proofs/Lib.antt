@@ -1,0 +1,5 @@
+pub mod Lists
+pub mod Decided
+pub mod Told
+pub mod Ticks
+pub mod Blocks

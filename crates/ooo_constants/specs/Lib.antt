@@ -1,0 +1,4 @@
+pub mod Meanings
+pub mod Values
+pub mod Times
+pub mod Bodies

@@ -1,0 +1,327 @@
+//! Values and times of small trees, each worked by hand from ISO C++ and IEEE 1666-2011, 5.11.
+
+use crate::{
+    Known, Meaning, TimeBreach, TimeRefusal, add_calls, operator, place, refuse_times, time, value,
+};
+use ooo_checked::{
+    CheckedAwaited, CheckedExpr, CheckedSimple, CheckedStat, CheckedTime, Denotation, Resolved,
+    Thing,
+};
+use ooo_lexer::Position;
+use ooo_syntax::{BinaryOp, Number, PrefixOp, TypeForm, TypeName, Word};
+use ooo_time::{Scale, Time};
+use ooo_value::{Fault, Kind, Name, Op, Value};
+use sqlite_items::{Boxed, Items};
+use std::alloc::{AllocError, Global};
+use std::process::Abort;
+use std::test::Fail;
+
+const AT: Position = Position { line: 3, column: 5 };
+
+const LEAST: Value = Value::Int(-2_147_483_648);
+
+// A file of two names and a module of three members, the third a variable; the second member is static.
+static FILE: [Meaning; 2] = [Meaning::Constant(Value::Int(40)), Meaning::Nothing];
+
+static STATICS: [Meaning; 2] = [Meaning::Nothing, Meaning::Constant(Value::Uint(7))];
+
+static MEMBERS: [Meaning; 3] = [
+    Meaning::Constant(Value::Bool(true)),
+    Meaning::Constant(Value::Uint(9)),
+    Meaning::Variable(0),
+];
+
+static PARAMETERS: [Value; 1] = [Value::Long(11)];
+
+fn known() -> Known<'static> {
+    Known {
+        file: &FILE,
+        statics: &STATICS,
+        members: &MEMBERS,
+        parameters: &PARAMETERS,
+    }
+}
+
+fn number(value: Value) -> CheckedExpr {
+    let number = Number {
+        value,
+        position: AT,
+    };
+    CheckedExpr::Number(value.kind(), number)
+}
+
+fn name(alloc: Global, thing: Thing, number: usize) -> Result<CheckedExpr, AllocError> {
+    let word = Word {
+        name: Name::new(alloc, "x")?,
+        position: AT,
+    };
+    let denotes = Denotation { thing, number };
+    Ok(CheckedExpr::Name(thing.value_kind(), Resolved { word, denotes }))
+}
+
+fn joined(
+    alloc: Global,
+    sign: BinaryOp,
+    a: CheckedExpr,
+    b: CheckedExpr,
+) -> Result<CheckedExpr, AllocError> {
+    let a = Boxed::new(alloc, a)?;
+    let b = Boxed::new(alloc, b)?;
+    Ok(CheckedExpr::Binary(Kind::Int, sign, a, b))
+}
+
+fn prefixed(alloc: Global, op: PrefixOp, e: CheckedExpr) -> Result<CheckedExpr, AllocError> {
+    Ok(CheckedExpr::Prefix(Kind::Int, AT, op, Boxed::new(alloc, e)?))
+}
+
+// An expression that divides by 0.
+fn faulty(alloc: Global) -> Result<CheckedExpr, AllocError> {
+    joined(
+        alloc,
+        BinaryOp::Divide,
+        number(Value::Int(1)),
+        number(Value::Int(0)),
+    )
+}
+
+// One that shifts by more than its width has.
+fn faulty_shift(alloc: Global) -> Result<CheckedExpr, AllocError> {
+    joined(
+        alloc,
+        BinaryOp::ShiftLeft,
+        number(Value::Int(1)),
+        number(Value::Int(32)),
+    )
+}
+
+fn gives(rt: &impl Abort, e: &CheckedExpr, answer: Result<Value, Fault>, what: &str) {
+    assert_eq!(rt; value(known(), e), answer, "{what}");
+}
+
+#[test]
+fn operators_give_what_c_does(rt: HostRuntime) -> Result<(), Fail> {
+    let rows = [
+        (BinaryOp::Either, Value::Bool(true)),
+        (BinaryOp::Both, Value::Bool(true)),
+        (BinaryOp::Or, Value::Int(15)),
+        (BinaryOp::Xor, Value::Int(13)),
+        (BinaryOp::And, Value::Int(2)),
+        (BinaryOp::Equal, Value::Bool(false)),
+        (BinaryOp::NotEqual, Value::Bool(true)),
+        (BinaryOp::Less, Value::Bool(false)),
+        (BinaryOp::LessEqual, Value::Bool(false)),
+        (BinaryOp::Greater, Value::Bool(true)),
+        (BinaryOp::GreaterEqual, Value::Bool(true)),
+        (BinaryOp::ShiftLeft, Value::Int(112)),
+        (BinaryOp::ShiftRight, Value::Int(1)),
+        (BinaryOp::Add, Value::Int(17)),
+        (BinaryOp::Subtract, Value::Int(11)),
+        (BinaryOp::Multiply, Value::Int(42)),
+        (BinaryOp::Divide, Value::Int(4)),
+        (BinaryOp::Remainder, Value::Int(2)),
+    ];
+    for (sign, answer) in rows {
+        // 14 and 3
+        let e = joined(
+            rt.alloc(),
+            sign,
+            number(Value::Int(14)),
+            number(Value::Int(3)),
+        )?;
+        gives(&rt, &e, Ok(answer), "14 and 3");
+    }
+    assert!(rt; operator(BinaryOp::Both).is_none() && operator(BinaryOp::Either).is_none());
+    assert_eq!(rt; operator(BinaryOp::LessEqual), Some(Op::LessOrEqual));
+    Ok(())
+}
+
+// A side that is left out may fault; of two faults the left one's is told.
+#[test]
+fn a_side_that_is_left_out_plays_no_part(rt: HostRuntime) -> Result<(), Fail> {
+    let yes = Value::Int(2);
+    let no = Value::Uint(0);
+    let fault = Err(Fault::DivideByZero);
+    let rows = [
+        (BinaryOp::Both, no, Ok(Value::Bool(false))),
+        (BinaryOp::Both, yes, fault),
+        (BinaryOp::Either, yes, Ok(Value::Bool(true))),
+        (BinaryOp::Either, no, fault),
+        (BinaryOp::And, no, fault),
+    ];
+    for (sign, left, answer) in rows {
+        let e = joined(rt.alloc(), sign, number(left), faulty(rt.alloc())?)?;
+        gives(&rt, &e, answer, "a fault on the right");
+    }
+    let both = joined(
+        rt.alloc(),
+        BinaryOp::Add,
+        faulty_shift(rt.alloc())?,
+        faulty(rt.alloc())?,
+    )?;
+    gives(&rt, &both, Err(Fault::ShiftRange), "two faults");
+    let truth = joined(
+        rt.alloc(),
+        BinaryOp::Both,
+        number(yes),
+        number(Value::Int(0)),
+    )?;
+    gives(
+        &rt,
+        &truth,
+        Ok(Value::Bool(false)),
+        "the truth of the right side",
+    );
+    let left = chosen(rt.alloc(), yes, number(Value::Int(-1)), faulty(rt.alloc())?)?;
+    gives(
+        &rt,
+        &left,
+        Ok(Value::Uint(4_294_967_295)),
+        "the first branch, in the common kind",
+    );
+    let right = chosen(
+        rt.alloc(),
+        no,
+        faulty(rt.alloc())?,
+        number(Value::Bool(true)),
+    )?;
+    gives(&rt, &right, Ok(Value::Uint(1)), "the second branch");
+    Ok(())
+}
+
+// A choice of an `int` and an `unsigned int`.
+fn chosen(
+    alloc: Global,
+    test: Value,
+    yes: CheckedExpr,
+    no: CheckedExpr,
+) -> Result<CheckedExpr, AllocError> {
+    let test = Boxed::new(alloc, number(test))?;
+    let yes = Boxed::new(alloc, yes)?;
+    let no = Boxed::new(alloc, no)?;
+    Ok(CheckedExpr::Choose(Kind::Uint, test, yes, no))
+}
+
+#[test]
+fn prefixes_casts_and_names_give_their_values(rt: HostRuntime) -> Result<(), Fail> {
+    let rows = [
+        (PrefixOp::Not, Value::Int(5), Ok(Value::Bool(false))),
+        (
+            PrefixOp::Invert,
+            Value::Uint(1),
+            Ok(Value::Uint(4_294_967_294)),
+        ),
+        (PrefixOp::Negate, Value::Bool(true), Ok(Value::Int(-1))),
+        (PrefixOp::Negate, LEAST, Err(Fault::Overflow)),
+        (PrefixOp::Keep, Value::Bool(true), Ok(Value::Int(1))),
+    ];
+    for (op, operand, answer) in rows {
+        let e = prefixed(rt.alloc(), op, number(operand))?;
+        gives(&rt, &e, answer, "a prefix");
+    }
+    let form = TypeName {
+        form: TypeForm::UnsignedLongLong,
+        position: AT,
+    };
+    let operand = Boxed::new(rt.alloc(), number(Value::Int(-1)))?;
+    let cast = CheckedExpr::Cast(Kind::Ulong, AT, form, operand);
+    gives(
+        &rt,
+        &cast,
+        Ok(Value::Ulong(18_446_744_073_709_551_615)),
+        "a cast",
+    );
+    let names = [
+        (Thing::FileConstant(Kind::Int), 0, Value::Int(40)),
+        (Thing::FileConstant(Kind::Long), 1, Value::Long(0)),
+        (Thing::MainConstant(Kind::Bool), 0, Value::Bool(true)),
+        (Thing::Fixed(Kind::Bool), 0, Value::Bool(true)),
+        (Thing::Fixed(Kind::Uint), 1, Value::Uint(7)),
+        (Thing::Parameter(Kind::Long), 1, Value::Long(11)),
+        (Thing::Variable(Kind::Uint), 2, Value::Int(0)),
+    ];
+    for (thing, number, answer) in names {
+        let e = name(rt.alloc(), thing, number)?;
+        gives(&rt, &e, Ok(answer), "a name");
+    }
+    Ok(())
+}
+
+// 2^62 - 1 is 4,611,686,018,427,387,903.
+#[test]
+fn times_are_counted_in_ticks(rt: HostRuntime) -> Result<(), Fail> {
+    let rows = [
+        (Value::Int(0), Scale::Sec, Ok(Time(0))),
+        (Value::Int(10), Scale::Ns, Ok(Time(10_000))),
+        (Value::Bool(true), Scale::Ms, Ok(Time(1_000_000_000))),
+        (Value::Int(-1), Scale::Ps, Err(TimeBreach::Bad)),
+        (
+            Value::Long(4_611_686_018_427_387_903),
+            Scale::Ps,
+            Ok(Time(4_611_686_018_427_387_903)),
+        ),
+        (
+            Value::Long(4_611_686_018_427_387_904),
+            Scale::Ps,
+            Err(TimeBreach::TooLarge),
+        ),
+        (
+            Value::Int(4_611_686),
+            Scale::Sec,
+            Ok(Time(4_611_686_000_000_000_000)),
+        ),
+        (Value::Int(4_611_687), Scale::Sec, Err(TimeBreach::TooLarge)),
+    ];
+    for (amount, scale, answer) in rows {
+        let given = CheckedTime::Amount(number(amount), scale);
+        assert_eq!(rt; time(known(), &given), answer, "{amount:?}");
+    }
+    assert_eq!(rt; time(known(), &CheckedTime::Zero(AT)), Ok(Time(0)));
+    let made = CheckedTime::Made(
+        Position { line: 3, column: 1 },
+        faulty(rt.alloc())?,
+        Scale::Ns,
+    );
+    assert_eq!(rt; time(known(), &made), Err(TimeBreach::Bad));
+    assert_eq!(rt; place(&made), AT);
+    Ok(())
+}
+
+// wait(-1, SC_NS) at a line and a call of the function 4, in a block.
+fn refused_block(alloc: Global, line: u32) -> Result<CheckedStat, AllocError> {
+    let at = Position { line, column: 9 };
+    let number = Number {
+        value: Value::Int(-1),
+        position: at,
+    };
+    let amount = CheckedExpr::Number(Kind::Int, number);
+    let delay = CheckedAwaited::Delay(CheckedTime::Amount(amount, Scale::Ns));
+    let mut body = Items::new(alloc);
+    body.push(CheckedStat::Simple(CheckedSimple::Wait(at, delay)))?;
+    let word = Word {
+        name: Name::new(alloc, "f")?,
+        position: at,
+    };
+    let denotes = Denotation {
+        thing: Thing::Function(None, 0),
+        number: 4,
+    };
+    let call = CheckedSimple::Call(Resolved { word, denotes }, Items::new(alloc));
+    body.push(CheckedStat::Simple(call))?;
+    Ok(CheckedStat::Block(at, body))
+}
+
+#[test]
+fn a_body_is_looked_at_as_a_whole(rt: HostRuntime) -> Result<(), Fail> {
+    let mut body = Items::new(rt.alloc());
+    body.push(refused_block(rt.alloc(), 7)?)?;
+    body.push(refused_block(rt.alloc(), 6)?)?;
+    let mut told = None;
+    refuse_times(known(), body.as_slice(), &mut told);
+    let at = Position { line: 6, column: 9 };
+    let what = TimeBreach::Bad;
+    assert_eq!(rt; told, Some(TimeRefusal { what, at }));
+    let mut calls = Vec::new(rt.alloc());
+    add_calls(body.as_slice(), &mut calls)?;
+    assert_eq!(rt; calls.as_slice(), [4, 4].as_slice());
+    Ok(())
+}
