@@ -1,0 +1,4 @@
+pub mod Names
+pub mod Exprs
+pub mod Simples
+pub mod Stats
