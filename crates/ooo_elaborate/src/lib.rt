@@ -1,0 +1,20 @@
+//! Elaboration: makes the instances of a text's modules, binds their ports and puts numbers in place of names
+//! (IEEE 1666-2011, clause 4.1).
+//!
+//! Proved: [`elaborate`] answers the bound model that the definition `bound_of` in `specs/Elaborated` gives of a text, or what
+//! it refuses first in its four passes; or memory runs out.
+#![tactic(auto)]
+
+mod bindings;
+mod copies;
+mod elaborated;
+mod ends;
+mod functions;
+mod holders;
+mod processes;
+
+pub use bindings::Links;
+pub use elaborated::elaborate;
+pub use functions::{Numbered, WalkedFunction};
+pub use holders::{End, Held, Holders};
+pub use processes::Model;
