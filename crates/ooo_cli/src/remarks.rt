@@ -1,6 +1,6 @@
 use ooo_messages::{
-    lexer_breach, lexer_reason, parser_breach, parser_reason, types_breach, types_reason,
-    words_reason,
+    elab_breach, elab_reason, lexer_breach, lexer_reason, parser_breach, parser_reason,
+    types_breach, types_reason, words_reason,
 };
 use ooo_sim::{MOST_BYTES, Status};
 use ooo_words::{Command, WordsError, read};
@@ -70,7 +70,8 @@ fn say_refused(rt: &impl Eprint, reason: &str) {
     let _ = eprintln!(rt; "peljouk: the words are refused: {reason}");
 }
 
-// A refusal's line is `refused LAYER NAME LINE:COLUMN` or `refused form NotBuilt`.
+// A refusal's line is `refused LAYER NAME LINE:COLUMN`, with names behind it where elaboration refuses, or
+// `refused form NotBuilt`.
 fn remark_text(rt: &impl Eprint, line: &[u8]) {
     match str::from_utf8(line).ok().and_then(refusal_in) {
         Some((reason, line, column)) => {
@@ -89,7 +90,11 @@ fn remark_text(rt: &impl Eprint, line: &[u8]) {
 fn refusal_in(line: &str) -> Option<(&'static str, &str, &str)> {
     let (layer, named) = line.strip_prefix("refused ")?.split_once(' ')?;
     let (name, place) = named.split_once(' ')?;
-    let (line, column) = place.strip_suffix("\n")?.split_once(':')?;
+    let (line, behind) = place.strip_suffix("\n")?.split_once(':')?;
+    let column = match behind.split_once(' ') {
+        Some((column, _names)) => column,
+        None => behind,
+    };
     Some((layer_reason(layer, name)?, line, column))
 }
 
@@ -103,6 +108,9 @@ fn layer_reason(layer: &str, name: &str) -> Option<&'static str> {
     }
     if layer == "types" {
         return Some(types_reason(types_breach(name)?));
+    }
+    if layer == "elaborate" {
+        return Some(elab_reason(elab_breach(name)?));
     }
     None
 }

@@ -6,7 +6,9 @@ use Rattle.ooo_syntax.specs.Breaches.{name_of as parser_name_of}
 use Rattle.ooo_syntax.specs.declared.error.ParseBreach.{ParseBreach}
 use Rattle.ooo_checked.specs.Breaches.{name_of as type_name_of}
 use Rattle.ooo_checked.specs.declared.breach.TypeBreach.{TypeBreach}
-use Rattle.ooo_messages.specs.Reasons.{breach_named, parse_breach_named, type_breach_named}
+use Rattle.ooo_walk.specs.Breaches.{name_of as elab_name_of}
+use Rattle.ooo_walk.specs.declared.refusal.ElabBreach.{ElabBreach}
+use Rattle.ooo_messages.specs.Reasons.{breach_named, elab_breach_named, parse_breach_named, type_breach_named}
 
 -- each breach of the lexer is found by its name
 abbrev pub IsFoundByName : Type 0
@@ -19,3 +21,7 @@ IsParseBreachFound = (breach : ParseBreach) → parse_breach_named (parser_name_
 -- so is each breach of names and types
 abbrev pub IsTypeBreachFound : Type 0
 IsTypeBreachFound = (breach : TypeBreach) → type_breach_named (type_name_of breach) ≡ Some breach
+
+-- so is each breach of elaboration
+abbrev pub IsElabBreachFound : Type 0
+IsElabBreachFound = (breach : ElabBreach) → elab_breach_named (elab_name_of breach) ≡ Some breach

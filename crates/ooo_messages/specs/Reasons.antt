@@ -10,6 +10,9 @@ use Rattle.ooo_syntax.specs.declared.error.ParseBreach.TheVariants as parser
 use Rattle.ooo_checked.specs.Breaches.{name_of as type_name_of}
 use Rattle.ooo_checked.specs.declared.breach.TypeBreach.{TypeBreach}
 use Rattle.ooo_checked.specs.declared.breach.TypeBreach.TheVariants as types
+use Rattle.ooo_walk.specs.Breaches.{name_of as elab_name_of}
+use Rattle.ooo_walk.specs.declared.refusal.ElabBreach.{ElabBreach}
+use Rattle.ooo_walk.specs.declared.refusal.ElabBreach.TheVariants as elab
 use Rattle.ooo_words.specs.declared.refused.WordsBreach.{WordsBreach}
 use Rattle.ooo_words.specs.declared.refused.WordsBreach.TheVariants as words
 
@@ -50,6 +53,21 @@ types_reason types.WrongCount = codes "there are too many arguments, too few, or
 types_reason types.EffectInside = codes "a call that does more than give a value can't stand inside an expression"
 types_reason types.NotConstant = codes "this has to be known before the simulation, and isn't"
 
+-- why a text whose names and types are right can't be elaborated
+abbrev pub elab_reason : ElabBreach → List ℕ
+elab_reason elab.PortNotBound = codes "nothing is bound to this port"
+elab_reason elab.PortBoundTwice = codes "this port is bound already"
+elab_reason elab.PortKind = codes "a port of this sort can't be bound to this"
+elab_reason elab.TwoWriters = codes "two processes write to this"
+elab_reason elab.TwoReaders = codes "two processes read from this"
+elab_reason elab.TooManyProcesses = codes "this process is one too many"
+elab_reason elab.TooManyObjects = codes "this instance, channel, event or variable is one too many"
+elab_reason elab.TooManyCells = codes "the variables have too many elements with this one"
+elab_reason elab.FifoSize = codes "a fifo holds 1 to 65536 values"
+elab_reason elab.TimeTooLarge = codes "this time is too great"
+elab_reason elab.OddClock = codes "a clock's period has to be a positive even number of picoseconds"
+elab_reason elab.BadConstant = codes "this has no value, or none that may stand here"
+
 -- all that may be wrong with a text that can't be cut
 abbrev pub lexer_breaches : List LexBreach
 lexer_breaches = lexer.BadByte ∷ lexer.NumberTooWide ∷ lexer.TextNotClosed ∷ lexer.CommentNotClosed
@@ -75,3 +93,13 @@ type_breaches = types.UnknownName ∷ types.DeclaredTwice ∷ types.WrongKind �
 -- the breach of names and types of this name
 abbrev pub type_breach_named : List ℕ → Option TypeBreach
 type_breach_named name = find (λ breach. bytes_eq name (type_name_of breach)) type_breaches
+
+-- all that a text may not be elaborated for
+abbrev pub elab_breaches : List ElabBreach
+elab_breaches = elab.PortNotBound ∷ elab.PortBoundTwice ∷ elab.PortKind ∷ elab.TwoWriters ∷ elab.TwoReaders
+    ∷ elab.TooManyProcesses ∷ elab.TooManyObjects ∷ elab.TooManyCells ∷ elab.FifoSize ∷ elab.TimeTooLarge ∷ elab.OddClock
+    ∷ elab.BadConstant ∷ []
+
+-- the breach of elaboration of this name
+abbrev pub elab_breach_named : List ℕ → Option ElabBreach
+elab_breach_named name = find (λ breach. bytes_eq name (elab_name_of breach)) elab_breaches

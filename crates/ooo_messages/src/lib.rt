@@ -5,8 +5,8 @@ pub mod law;
 mod reasons;
 
 pub use reasons::{
-    lexer_breach, lexer_reason, parser_breach, parser_reason, types_breach, types_reason,
-    words_reason,
+    elab_breach, elab_reason, lexer_breach, lexer_reason, parser_breach, parser_reason,
+    types_breach, types_reason, words_reason,
 };
 
 #[cfg(test)]

@@ -1,10 +1,11 @@
 ghost use Rattle.std.specs.Prelude.{◌≡◌};
 ghost use Rattle.ooo_messages.specs.Reasons.{breach_named, lexer_reason, parse_breach_named, parser_reason, type_breach_named};
-ghost use Rattle.ooo_messages.specs.Reasons.{types_reason, words_reason};
+ghost use Rattle.ooo_messages.specs.Reasons.{elab_breach_named, elab_reason, types_reason, words_reason};
 
 use ooo_checked::TypeBreach;
 use ooo_lexer::LexBreach;
 use ooo_syntax::ParseBreach;
+use ooo_walk::ElabBreach;
 use ooo_words::WordsBreach;
 
 /// What is wrong with words.
@@ -68,6 +69,36 @@ pub fn types_reason(breach: TypeBreach) -> &'static str
     }
 }
 
+/// Why a text whose names and types are right can't be elaborated.
+pub fn elab_reason(breach: ElabBreach) -> &'static str
+    ensures { result.now ≡ elab_reason breach }
+{
+    match breach {
+        ElabBreach::PortNotBound => "nothing is bound to this port",
+        ElabBreach::PortBoundTwice => "this port is bound already",
+        ElabBreach::PortKind => "a port of this sort can't be bound to this",
+        ElabBreach::TwoWriters => "two processes write to this",
+        ElabBreach::TwoReaders => "two processes read from this",
+        ElabBreach::TooManyProcesses => "this process is one too many",
+        ElabBreach::TooManyObjects => "this instance, channel, event or variable is one too many",
+        ElabBreach::TooManyCells => "the variables have too many elements with this one",
+        ElabBreach::FifoSize => "a fifo holds 1 to 65536 values",
+        ElabBreach::TimeTooLarge => "this time is too great",
+        ElabBreach::OddClock => "a clock's period has to be a positive even number of picoseconds",
+        ElabBreach::BadConstant => "this has no value, or none that may stand here",
+    }
+}
+
+/// The breach of elaboration that has this name.
+pub fn elab_breach(name: &str) -> Option<ElabBreach>
+    ensures { result ≡ elab_breach_named name.now }
+{
+    ELAB_BREACHES
+        .iter()
+        .copied()
+        .find(|known| name == known.name())
+}
+
 /// The breach of names and types that has this name.
 pub fn types_breach(name: &str) -> Option<TypeBreach>
     ensures { result ≡ type_breach_named name.now }
@@ -124,4 +155,19 @@ static TYPE_BREACHES: [TypeBreach; 10] = [
     TypeBreach::WrongCount,
     TypeBreach::EffectInside,
     TypeBreach::NotConstant,
+];
+
+static ELAB_BREACHES: [ElabBreach; 12] = [
+    ElabBreach::PortNotBound,
+    ElabBreach::PortBoundTwice,
+    ElabBreach::PortKind,
+    ElabBreach::TwoWriters,
+    ElabBreach::TwoReaders,
+    ElabBreach::TooManyProcesses,
+    ElabBreach::TooManyObjects,
+    ElabBreach::TooManyCells,
+    ElabBreach::FifoSize,
+    ElabBreach::TimeTooLarge,
+    ElabBreach::OddClock,
+    ElabBreach::BadConstant,
 ];

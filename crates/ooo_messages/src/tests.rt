@@ -1,10 +1,11 @@
 use crate::{
-    lexer_breach, lexer_reason, parser_breach, parser_reason, types_breach, types_reason,
-    words_reason,
+    elab_breach, elab_reason, lexer_breach, lexer_reason, parser_breach, parser_reason,
+    types_breach, types_reason, words_reason,
 };
 use ooo_checked::TypeBreach;
 use ooo_lexer::LexBreach;
 use ooo_syntax::ParseBreach;
+use ooo_walk::ElabBreach;
 use ooo_words::WordsBreach;
 
 #[test]
@@ -28,4 +29,10 @@ fn says_what_is_wrong(rt: HostRuntime) {
     );
     assert_eq!(rt; types_breach("NotAPort"), Some(TypeBreach::NotAPort));
     assert_eq!(rt; types_breach("Syntax"), None);
+    assert_eq!(rt;
+        elab_reason(ElabBreach::TwoWriters),
+        "two processes write to this"
+    );
+    assert_eq!(rt; elab_breach("FifoSize"), Some(ElabBreach::FifoSize));
+    assert_eq!(rt; elab_breach("NotAPort"), None);
 }

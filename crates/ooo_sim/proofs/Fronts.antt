@@ -17,11 +17,7 @@ use Rattle.ooo_sim.specs.declared.front.FrontError.TheVariants as error
 use Rattle.ooo_sim.specs.declared.front.Refusal.TheVariants as refusal
 use Rattle.ooo_syntax.specs.declared.error.ParseError.{ParseError}
 use Rattle.ooo_syntax.specs.declared.error.ParseError.TheVariants as parser
-use Rattle.ooo_checked.specs.declared.breach.TypeBreach.{TypeBreach}
-use Rattle.ooo_checked.specs.declared.breach.TypeError.{TypeError}
-use Rattle.ooo_checked.specs.declared.breach.TypeError.TheVariants as types
-use Rattle.ooo_types.specs.Told.{IsLeast, breaches_of}
-use Rattle.ooo_sim.specs.Front.{AreMisspelled, AreRight, AreSpelled, RefusesFor, RefusesTokens, error_of_parser, error_of_types}
+use Rattle.ooo_sim.specs.Front.{AreMisspelled, AreRight, AreSpelled, RefusesFor, RefusesTokens, RefusesTree, error_of_parser}
 use Rattle.ooo_sim.specs.Refusals.{IsSpelled, IsMisspelled, IsTextOf, IsNotBuilt}
 
 spelled_by : (text : List ℕ) (tokens : List Token) (tree : UnitSpec) → AreTokensOf text tokens → AreSpelled text tokens tree → IsSpelled text tree
@@ -32,7 +28,9 @@ pub text_of : (text : List ℕ) (tokens : List Token) (ls : List Lexeme) (m : Th
 text_of text tokens ls m t l r model = record {
   tree = r.tree;
   spelled = record { pieces = t.pieces; cut = t.cut; spelled = subst (λ ts. IsTreeOf whole_text (symbols_in text ts) r.tree) t.are r.spelled };
-  right = r.right;
+  right = r.is.right;
+  bound = r.is.bound;
+  elaborates = r.is.elaborates;
   model = subst (λ ls. IsModelOf ls m) (l t.pieces t.cut) model;
 }
 
@@ -45,7 +43,13 @@ pub refused_tokens : (text : List ℕ) (tokens : List Token) (e : FrontError) �
 refused_tokens text tokens (error.Refused (refusal.Lexer breach at)) t r = absurd r
 refused_tokens text tokens (error.Refused (refusal.Parser breach at)) t r = misspelled text tokens breach at t r
 refused_tokens text tokens (error.Refused (refusal.Types breach at)) t r =
-    record { tree = r.tree; spelled = spelled_by text tokens r.tree t r.spelled; told = r.told }
+    record { tree = r.tree; spelled = spelled_by text tokens r.tree t r.spelled; told = r.refused }
+refused_tokens text tokens (error.Refused (refusal.Elaborate why)) t r = record {
+  tree = r.tree;
+  spelled = spelled_by text tokens r.tree t r.spelled;
+  right = r.refused.right;
+  refused = r.refused.refused;
+}
 refused_tokens text tokens (error.Refused refusal.NotBuilt) t r = absurd r
 refused_tokens text tokens error.OutOfMemory t r = tt
 
@@ -56,17 +60,22 @@ pub parse_refused : (text : List ℕ) (tokens : List Token) (e : ParseError) →
 parse_refused text tokens (parser.Refused breach at) h = h breach at refl
 parse_refused text tokens parser.OutOfMemory h = tt
 
--- and so is what the types answer of their tree
-pub types_refused : (text : List ℕ) (tokens : List Token) (tree : UnitSpec) (e : TypeError) → AreSpelled text tokens tree →
-    ((breach : TypeBreach) (at : Position) → e ≡ types.Refused breach at → IsLeast (record { what = breach; at = at }) (breaches_of tree)) →
-    RefusesTokens text tokens (error_of_types e)
-types_refused text tokens tree (types.Refused breach at) s h = record { tree = tree; spelled = s; told = h breach at refl }
-types_refused text tokens tree types.OutOfMemory s h = tt
+-- and so is what a tree is refused for
+pub tree_refused : (text : List ℕ) (tokens : List Token) (tree : UnitSpec) (e : FrontError) → AreSpelled text tokens tree →
+    RefusesTree tree e → RefusesTokens text tokens e
+tree_refused text tokens tree (error.Refused (refusal.Lexer breach at)) s r = absurd r
+tree_refused text tokens tree (error.Refused (refusal.Parser breach at)) s r = absurd r
+tree_refused text tokens tree (error.Refused (refusal.Types breach at)) s r = record { tree = tree; spelled = s; refused = r }
+tree_refused text tokens tree (error.Refused (refusal.Elaborate why)) s r = record { tree = tree; spelled = s; refused = r }
+tree_refused text tokens tree (error.Refused refusal.NotBuilt) s r = absurd r
+tree_refused text tokens tree error.OutOfMemory s r = tt
 
 pub not_built : (text : List ℕ) (tokens : List Token) (ls : List Lexeme) → AreTokensOf text tokens → AreLexemesOf text ls → AreRight text tokens → ((m : ThreadModel) → ¬ IsModelOf ls m) → IsNotBuilt text
 not_built text tokens ls t l r none = record {
   tree = r.tree;
   spelled = spelled_by text tokens r.tree t r.spelled;
-  right = r.right;
+  right = r.is.right;
+  bound = r.is.bound;
+  elaborates = r.is.elaborates;
   none = λ m of. none m (subst (λ ls. IsModelOf ls m) (sym (l of.spelled.pieces of.spelled.cut)) of.model);
 }

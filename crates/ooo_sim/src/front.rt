@@ -1,23 +1,25 @@
-ghost use Rattle.std.specs.Prelude.{◌≡◌, ◌≤◌, [], length, All, Err, IfErr, IfOk};
+ghost use Rattle.std.specs.Prelude.{◌≤◌, length, All, IfErr, IfOk};
 ghost use Rattle.ooo_lexer.specs.Spans.{AreInOrder, IsWithin};
-ghost use Rattle.ooo_lexer.specs.declared.position.Position.{Position as PositionSpec};
-ghost use Rattle.ooo_checked.specs.declared.breach.TypeBreach.{TypeBreach as TypeBreachSpec};
-ghost use Rattle.ooo_types.specs.Told.{IsLeast, breaches_of};
+ghost use Rattle.ooo_elaborate.specs.Elaborated.{IsAnswerTo as IsElaboration, bound_of};
+ghost use Rattle.ooo_types.specs.Units.{unit_of};
 ghost use Rattle.ooo_threads.specs.Ready.{IsReady};
-ghost use Rattle.ooo_sim.specs.Front.{AreRight, Refuses, RefusesTokens};
+ghost use Rattle.ooo_sim.specs.Front.{AreRight, IsRight, Refuses, RefusesTokens, RefusesTree};
 ghost use Rattle.ooo_sim.specs.Refusals.{IsTextOf};
 ghost use Rattle.ooo_sim.specs.declared.reply.TheConstants.{MOST_BYTES};
 
+use ooo_bound::Bound;
 use ooo_checked::{TypeBreach, TypeError};
+use ooo_elaborate::elaborate;
 use ooo_lexer::{LexBreach, LexError, Position, Token, lex};
 use ooo_parser::parse;
 use ooo_syntax::{ParseBreach, ParseError, Unit};
 use ooo_threads::{FormError, Ready};
-use ooo_types::check;
+use ooo_types::{Checked, check};
+use ooo_walk::{ElabError, Refusal as ElabRefusal};
 use std::alloc::Global;
 
 /// Why a text is refused, by the layer that refuses it.
-#[derive(Clone, Copy, Debug, PartialEq, Eq)]
+#[derive(Debug, Drop)]
 pub enum Refusal {
     /// The text can't be cut into tokens: what is wrong, and where.
     Lexer(LexBreach, Position),
@@ -25,12 +27,14 @@ pub enum Refusal {
     Parser(ParseBreach, Position),
     /// A name or a type of the text is wrong: what is wrong, and where.
     Types(TypeBreach, Position),
+    /// The text can't be elaborated: what is refused first.
+    Elaborate(ElabRefusal),
     /// The tokens are no model of the form that is built so far.
     NotBuilt,
 }
 
 /// Why a text gave no model.
-#[derive(Clone, Copy, Debug, PartialEq, Eq)]
+#[derive(Debug, Drop)]
 pub(crate) enum FrontError {
     Refused(Refusal),
     /// Memory ran out, which says nothing of the text.
@@ -79,6 +83,20 @@ impl From<TypeError> for FrontError {
     }
 }
 
+impl From<ElabError> for FrontError {
+    ghost use Rattle.std.specs.Prelude.{◌≡◌};
+    ghost use Rattle.ooo_sim.specs.Front.{error_of_elab};
+
+    ghost from_gives = { λ error own. own ≡ error_of_elab error };
+
+    fn from(error: ElabError) -> FrontError {
+        match error {
+            ElabError::Refused(why) => FrontError::Refused(Refusal::Elaborate(why)),
+            ElabError::OutOfMemory => FrontError::OutOfMemory,
+        }
+    }
+}
+
 impl From<FormError> for FrontError {
     ghost use Rattle.std.specs.Prelude.{◌≡◌};
     ghost use Rattle.ooo_sim.specs.Front.{error_of_form};
@@ -106,9 +124,9 @@ pub(crate) fn model_of(alloc: Global, text: &[u8]) -> Result<Ready, FrontError>
     Ok(Ready::read(alloc, text, &tokens)?)
 }
 
-// That the grammar spells the tokens, and that their names and types are right, or why not. No later layer takes the tree
-// yet.
-#[tactic(auto, using(crate::proofs::Fronts::parse_refused, crate::proofs::Fronts::types_refused))]
+// That the grammar spells the tokens, that their names and types are right, and that they have a bound model, or why not.
+// No later layer takes that model yet.
+#[tactic(auto, using(crate::proofs::Fronts::parse_refused, crate::proofs::Fronts::tree_refused))]
 fn checked(alloc: Global, text: &[u8], tokens: &[Token]) -> Result<(), FrontError>
     requires short { length text.now ≤ MOST_BYTES }
     requires within { All (IsWithin text.now) tokens.now }
@@ -117,31 +135,28 @@ fn checked(alloc: Global, text: &[u8], tokens: &[Token]) -> Result<(), FrontErro
     ensures refused { IfErr result (RefusesTokens text.now tokens.now) }
 {
     match parse(alloc, text, tokens) {
-        Ok(tree) => match right(alloc, tree) {
-            Ok(()) => Ok(()),
+        Ok(tree) => right(alloc, tree),
+        Err(error) => Err(FrontError::from(error)),
+    }
+}
+
+// That the names and types of a tree are right and that it has a bound model, or what is wrong.
+fn right(alloc: Global, tree: Unit) -> Result<(), FrontError>
+    ensures right { IfOk result (λ _. IsRight tree) }
+    ensures refused { IfErr result (RefusesTree tree) }
+{
+    match check(alloc, &tree) {
+        Ok(checked) => match bound(alloc, checked) {
+            Ok(_) => Ok(()),
             Err(error) => Err(FrontError::from(error)),
         },
         Err(error) => Err(FrontError::from(error)),
     }
 }
 
-// That the names and types of a tree are right, or what is wrong with them.
-fn right(alloc: Global, tree: Unit) -> Result<(), TypeError>
-    ensures right { IfOk result (λ _. breaches_of tree ≡ []) }
-    ensures refused { (breach : TypeBreachSpec) (at : PositionSpec)
-        → result ≡ Err (TypeError.Refused breach at)
-        → IsLeast (record { what = breach; at = at }) (breaches_of tree) }
+// The bound model of a text whose names and types are right, or why it has none.
+fn bound(alloc: Global, checked: Checked) -> Result<Bound, ElabError>
+    ensures { IsElaboration (bound_of (unit_of checked).tree) result }
 {
-    without_value(check(alloc, &tree))
-}
-
-// The answer without its value, which goes.
-fn without_value<T: Drop, E>(answer: Result<T, E>) -> Result<(), E>
-    ensures ok { IfOk result (λ _. (value : T) × (answer ≡ Ok value)) }
-    ensures err { (error : E) → result ≡ Err error → answer ≡ Err error }
-{
-    match answer {
-        Ok(_) => Ok(()),
-        Err(error) => Err(error),
-    }
+    elaborate(alloc, checked.tree())
 }

@@ -1,26 +1,38 @@
-ghost use Rattle.std.specs.Prelude.{◌≡◌, IfOk};
-ghost use Rattle.ooo_sim.specs.Refusals.{layer_line, refusal_line};
+ghost use Rattle.std.specs.Prelude.{◌≡◌, ◌++◌, IfOk, OnOk};
+ghost use Rattle.ooo_sim.specs.Refusals.{elaborate_line, layer_head, layer_line, names_text, refusal_line};
 
 use crate::front::Refusal;
 use itoa::Buffer;
 use ooo_lexer::Position;
+use ooo_value::Name;
+use ooo_walk::Refusal as ElabRefusal;
 use std::alloc::{AllocError, Global};
 
 /// The line that refuses a text.
-pub(crate) fn refusal_line(alloc: Global, refusal: Refusal) -> Result<Vec<u8>, AllocError>
-    ensures { IfOk result (λ line. line.items ≡ refusal_line refusal) }
+pub(crate) fn refusal_line(alloc: Global, refusal: &Refusal) -> Result<Vec<u8>, AllocError>
+    ensures { IfOk result (λ line. line.items ≡ refusal_line refusal.now) }
 {
     match refusal {
-        Refusal::Lexer(breach, at) => layer_line(alloc, "lexer", breach.name(), at),
-        Refusal::Parser(breach, at) => layer_line(alloc, "parser", breach.name(), at),
-        Refusal::Types(breach, at) => layer_line(alloc, "types", breach.name(), at),
+        Refusal::Lexer(breach, at) => layer_line(alloc, "lexer", breach.name(), *at),
+        Refusal::Parser(breach, at) => layer_line(alloc, "parser", breach.name(), *at),
+        Refusal::Types(breach, at) => layer_line(alloc, "types", breach.name(), *at),
+        Refusal::Elaborate(why) => elaborate_line(alloc, why),
         Refusal::NotBuilt => Vec::from_slice(alloc, b"refused form NotBuilt\n"),
     }
 }
 
-// The line of a layer: the names of the layer and of what is wrong, and where that is.
+// The line of a layer.
 fn layer_line(alloc: Global, layer: &str, name: &str, at: Position) -> Result<Vec<u8>, AllocError>
     ensures { IfOk result (λ line. line.items ≡ layer_line layer.now name.now at) }
+{
+    let mut line = layer_head(alloc, layer, name, at)?;
+    line.push(b'\n')?;
+    Ok(line)
+}
+
+// The line of a layer without its end: the names of the layer and of what is wrong, and where that is.
+fn layer_head(alloc: Global, layer: &str, name: &str, at: Position) -> Result<Vec<u8>, AllocError>
+    ensures { IfOk result (λ line. line.items ≡ layer_head layer.now name.now at) }
 {
     let mut line = Vec::from_slice(alloc, b"refused ")?;
     line.extend_from_slice(layer.as_bytes())?;
@@ -30,6 +42,26 @@ fn layer_line(alloc: Global, layer: &str, name: &str, at: Position) -> Result<Ve
     line.extend_from_slice(Buffer::new().format(at.line).as_bytes())?;
     line.push(b':')?;
     line.extend_from_slice(Buffer::new().format(at.column).as_bytes())?;
+    Ok(line)
+}
+
+// Adds names, each behind a space.
+fn add_names(names: &[Name], line: &mut Vec<u8>) -> Result<(), AllocError>
+    ensures { OnOk result (line.new.items ≡ line.old.items ++ names_text names.now) }
+{
+    'parts: for e in names {
+        line.push(b' ')?;
+        line.extend_from_slice(e.as_bytes())?;
+    }
+    Ok(())
+}
+
+// The line of elaboration, which names what it is about.
+fn elaborate_line(alloc: Global, refusal: &ElabRefusal) -> Result<Vec<u8>, AllocError>
+    ensures { IfOk result (λ line. line.items ≡ elaborate_line refusal.now) }
+{
+    let mut line = layer_head(alloc, "elaborate", refusal.what.name(), refusal.at)?;
+    add_names(refusal.names.as_slice(), &mut line)?;
     line.push(b'\n')?;
     Ok(line)
 }

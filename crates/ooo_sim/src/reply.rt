@@ -47,14 +47,14 @@ pub(crate) fn reply_to(alloc: Global, text: &[u8], stop: Option<Time>) -> Result
     }
     match model_of(alloc, text) {
         Ok(ready) => run(alloc, &ready, stop),
-        Err(FrontError::Refused(refusal)) => refuse(alloc, refusal),
+        Err(FrontError::Refused(refusal)) => refuse(alloc, &refusal),
         Err(FrontError::OutOfMemory) => Err(AllocError),
     }
 }
 
 // The reply to a text that is refused.
-fn refuse(alloc: Global, refusal: Refusal) -> Result<Reply, AllocError>
-    ensures { IfOk result (λ r. r ≡ reply status.TextRefused (refusal_line refusal)) }
+fn refuse(alloc: Global, refusal: &Refusal) -> Result<Reply, AllocError>
+    ensures { IfOk result (λ r. r ≡ reply status.TextRefused (refusal_line refusal.now)) }
 {
     Ok(Reply::new(Status::TextRefused, refusal_line(alloc, refusal)?))
 }
