@@ -1,4 +1,5 @@
 ghost use Rattle.std.specs.Prelude.{◌≡◌, IfOk};
+ghost use Rattle.ooo_bound.specs.declared.stat.BoundStat.TheVariants as made;
 ghost use Rattle.ooo_checked.specs.declared.stat.CheckedStart.TheVariants as start;
 ghost use Rattle.ooo_numbers.specs.Exprs.{option_of};
 ghost use Rattle.ooo_numbers.specs.Names.{numbering_of};
@@ -107,6 +108,15 @@ struct ForHead {
     after: Option<LinedSimple>,
 }
 
+impl ForHead {
+    // The `for` with this head around a body.
+    fn around(self, line: u32, body: Boxed<BoundStat>) -> BoundStat
+        ensures { result ≡ made.For line self.begins self.test self.after body }
+    {
+        BoundStat::For(line, self.begins, self.test, self.after, body)
+    }
+}
+
 // The head of a `for`, on the heap.
 fn for_head(
     alloc: Global,
@@ -188,12 +198,7 @@ fn stat(
         CheckedStat::For(at, begins, test, step, body) => {
             let head = for_head(alloc, numbers, begins, test, step)?;
             let body = inner(alloc, numbers, body.get())?;
-            let ForHead {
-                begins,
-                test,
-                after,
-            } = head.into_inner();
-            Ok(BoundStat::For(at.line, begins, test, after, body))
+            Ok(head.into_inner().around(at.line, body))
         }
         CheckedStat::Break(at) => Ok(BoundStat::Break(at.line)),
         CheckedStat::Continue(at) => Ok(BoundStat::Continue(at.line)),
