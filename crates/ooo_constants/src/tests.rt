@@ -135,7 +135,7 @@ fn operators_give_what_c_does(rt: HostRuntime) -> Result<(), Fail> {
     Ok(())
 }
 
-// A side that is left out may fault; of two faults the left one's is told.
+// A side that is left out may fault.
 #[test]
 fn a_side_that_is_left_out_plays_no_part(rt: HostRuntime) -> Result<(), Fail> {
     let yes = Value::Int(2);
@@ -152,6 +152,13 @@ fn a_side_that_is_left_out_plays_no_part(rt: HostRuntime) -> Result<(), Fail> {
         let e = joined(rt.alloc(), sign, number(left), faulty(rt.alloc())?)?;
         gives(&rt, &e, answer, "a fault on the right");
     }
+    Ok(())
+}
+
+// Of two faults the left side's is told, and of a right side that counts its truth.
+#[test]
+fn both_sides_play_their_part(rt: HostRuntime) -> Result<(), Fail> {
+    let yes = Value::Int(2);
     let both = joined(
         rt.alloc(),
         BinaryOp::Add,
@@ -171,6 +178,14 @@ fn a_side_that_is_left_out_plays_no_part(rt: HostRuntime) -> Result<(), Fail> {
         Ok(Value::Bool(false)),
         "the truth of the right side",
     );
+    Ok(())
+}
+
+// Of a choice one branch alone is evaluated, and its value gets the kind of both.
+#[test]
+fn the_other_branch_plays_no_part(rt: HostRuntime) -> Result<(), Fail> {
+    let yes = Value::Int(2);
+    let no = Value::Uint(0);
     let left = chosen(rt.alloc(), yes, number(Value::Int(-1)), faulty(rt.alloc())?)?;
     gives(
         &rt,
