@@ -1,0 +1,11 @@
+mod Joined
+mod Blocks
+mod Firsts
+mod Puts
+mod Shaped
+mod Weights
+mod Measured
+mod Given
+mod Emitted
+mod Stated
+mod Sized

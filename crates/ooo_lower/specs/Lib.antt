@@ -1,0 +1,9 @@
+pub mod Widths
+pub mod Scenes
+pub mod Codes
+pub mod Extents
+pub mod Changes
+pub mod Parts
+pub mod Heads
+pub mod Lowered
+pub mod Weighing

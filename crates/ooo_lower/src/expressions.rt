@@ -1,0 +1,128 @@
+ghost use Rattle.std.specs.Prelude.{◌≡◌, IfOk};
+ghost use Rattle.ooo_shapes.specs.Expressions.{converted, kept, lowered, lowered_time, lowered_wait_time, slot_of};
+
+use crate::numbers::{narrow, sum};
+use crate::widths::start_of;
+use ooo_bound::{BoundExpr, BoundTime};
+use ooo_code::{NodeExpr, NodeTime};
+use ooo_shapes::Around;
+use ooo_value::{Kind, Op, Value, convert};
+use sqlite_items::Boxed;
+use std::alloc::{AllocError, Global};
+
+/// The slot of a local.
+pub(crate) fn slot_of(t: Around, kind: Kind, slot: u32) -> Result<u32, AllocError>
+    ensures { IfOk result (λ n. n ≡ slot_of t kind slot) }
+{
+    let start = start_of(t.widths, kind)?;
+    let within = sum(start, slot as u64)?;
+    narrow(sum(t.base as u64, within)?)
+}
+
+// `+e` is `e << 0`.
+fn kept(alloc: Global, e: Boxed<NodeExpr>) -> Result<NodeExpr, AllocError>
+    ensures { IfOk result (λ x. x ≡ kept e) }
+{
+    let nothing = Boxed::new(alloc, NodeExpr::Constant(Value::Int(0)))?;
+    Ok(NodeExpr::Binary(Op::ShiftLeft, e, nothing))
+}
+
+/// An expression of a function whose locals stand there.
+#[cycle(expr)]
+#[tactic(auto, unfolding(ooo_shapes::specs::Expressions::lowered))]
+pub(crate) fn lowered(alloc: Global, t: Around, e: &BoundExpr) -> Result<NodeExpr, AllocError>
+    ensures { IfOk result (λ x. x ≡ lowered t e.now) }
+{
+    match e {
+        BoundExpr::Constant(value) => Ok(NodeExpr::Constant(*value)),
+        BoundExpr::Local(kind, slot) => Ok(NodeExpr::Slot(slot_of(t, *kind, *slot)?)),
+        BoundExpr::Variable(variable) => Ok(NodeExpr::Variable(*variable)),
+        BoundExpr::Element(variable, index) => {
+            Ok(NodeExpr::Element(*variable, boxed(alloc, t, index.get())?))
+        }
+        BoundExpr::Signal(channel) => Ok(NodeExpr::Signal(*channel)),
+        BoundExpr::Changed(channel) => Ok(NodeExpr::Event(*channel)),
+        BoundExpr::Edge(channel, up) => Ok(NodeExpr::Edge(*channel, *up)),
+        BoundExpr::Available(channel) => Ok(NodeExpr::Available(*channel)),
+        BoundExpr::Free(channel) => Ok(NodeExpr::Free(*channel)),
+        BoundExpr::Convert(kind, e) => Ok(NodeExpr::Convert(*kind, boxed(alloc, t, e.get())?)),
+        BoundExpr::Promote(e) => kept(alloc, boxed(alloc, t, e.get())?),
+        BoundExpr::Negate(e) => Ok(NodeExpr::Negate(boxed(alloc, t, e.get())?)),
+        BoundExpr::Invert(e) => Ok(NodeExpr::Invert(boxed(alloc, t, e.get())?)),
+        BoundExpr::Not(e) => Ok(NodeExpr::Not(boxed(alloc, t, e.get())?)),
+        BoundExpr::Binary(op, a, b) => {
+            let left = boxed(alloc, t, a.get())?;
+            Ok(NodeExpr::Binary(*op, left, boxed(alloc, t, b.get())?))
+        }
+        BoundExpr::Both(a, b) => {
+            let left = boxed(alloc, t, a.get())?;
+            Ok(NodeExpr::And(left, boxed(alloc, t, b.get())?))
+        }
+        BoundExpr::Either(a, b) => {
+            let left = boxed(alloc, t, a.get())?;
+            Ok(NodeExpr::Or(left, boxed(alloc, t, b.get())?))
+        }
+        BoundExpr::Choose(kind, test, a, b) => {
+            let test = boxed(alloc, t, test.get())?;
+            let left = boxed(alloc, t, a.get())?;
+            let right = boxed(alloc, t, b.get())?;
+            let left = Boxed::new(alloc, NodeExpr::Convert(*kind, left))?;
+            let right = Boxed::new(alloc, NodeExpr::Convert(*kind, right))?;
+            Ok(NodeExpr::Choose(test, left, right))
+        }
+    }
+}
+
+// An expression on the heap.
+#[cycle(expr)]
+#[tactic(auto, unfolding(ooo_shapes::specs::Expressions::lowered))]
+fn boxed(alloc: Global, t: Around, e: &BoundExpr) -> Result<Boxed<NodeExpr>, AllocError>
+    ensures { IfOk result (λ x. x ≡ lowered t e.now) }
+{
+    let tree = lowered(alloc, t, e)?;
+    Boxed::new(alloc, tree)
+}
+
+/// A value converted to a kind: a constant at once, and any other value as the node runs.
+pub(crate) fn converted(alloc: Global, kind: Kind, e: NodeExpr) -> Result<NodeExpr, AllocError>
+    ensures { IfOk result (λ x. x ≡ converted kind e) }
+{
+    match e {
+        NodeExpr::Constant(value) => Ok(NodeExpr::Constant(convert(value, kind))),
+        e => Ok(NodeExpr::Convert(kind, Boxed::new(alloc, e)?)),
+    }
+}
+
+/// A time in a node.
+pub(crate) fn lowered_time(
+    alloc: Global,
+    t: Around,
+    time: &BoundTime,
+) -> Result<NodeTime, AllocError>
+    ensures { IfOk result (λ x. x ≡ lowered_time t time.now) }
+{
+    match time {
+        BoundTime::Fixed(time) => Ok(NodeTime::Fixed(*time)),
+        BoundTime::Amount(e, scale) => {
+            let amount = lowered(alloc, t, e)?;
+            Ok(NodeTime::Amount(amount, *scale))
+        }
+    }
+}
+
+/// The time of a wait, if it has one.
+pub(crate) fn lowered_wait_time(
+    alloc: Global,
+    t: Around,
+    time: &Option<BoundTime>,
+) -> Result<Option<NodeTime>, AllocError>
+    ensures { IfOk result (λ x. x ≡ lowered_wait_time t time.now) }
+{
+    match time {
+        None => Ok(None),
+        Some(time) => {
+            let time = lowered_time(alloc, t, time)?;
+            Ok(Some(time))
+        }
+    }
+}

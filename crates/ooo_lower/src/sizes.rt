@@ -1,0 +1,293 @@
+ghost use Rattle.std.specs.Prelude.{◌≡◌, ◌+◌, ◌≤◌, ◌↔◌, [], length, IfOk, IsTrue, OnOk};
+ghost use Rattle.ooo_lower.specs.Weighing.{AreWeighed, IsLeft, IsWeightOf, Weighs, calls_size, else_size};
+ghost use Rattle.ooo_lower.specs.Weighing.{sizes_by, weight_by};
+ghost use Rattle.ooo_shapes.specs.Sizes.{after_size, body_size, code_size, processes_size, right_size};
+ghost use Rattle.ooo_shapes.specs.Sizes.{simple_size, simples_size, sizes_within, stat_size};
+
+use crate::numbers::sum;
+use ooo_bound::{
+    Bound, BoundFunction, BoundProcess, BoundRight, BoundSimple, BoundStat, LinedSimple,
+};
+use sqlite_items::{Boxed, Items, at};
+use std::alloc::{AllocError, Global};
+
+/// The size of a body but for the functions that it calls, and the calls in it, one for each time.
+#[derive(Drop)]
+pub(crate) struct Weight {
+    own: u64,
+    calls: Items<u32>,
+}
+
+impl Weight {
+    fn new(alloc: Global) -> Weight
+        ensures own { result.own ≡ 0 }
+        ensures calls { result.calls ≡ [] }
+    {
+        Weight {
+            own: 0,
+            calls: Items::new(alloc),
+        }
+    }
+
+    // So many items more.
+    fn count(&mut self, n: u64) -> Result<(), AllocError>
+        ensures { OnOk result (Weighs (λ sizes. n) self.old self.new) }
+    {
+        self.own = sum(self.own, n)?;
+        Ok(())
+    }
+
+    // A call more.
+    #[tactic(auto, using(crate::proofs::Sized::calls_more))]
+    fn call(&mut self, f: u32) -> Result<(), AllocError>
+        ensures { OnOk result (Weighs (λ sizes. sizes f) self.old self.new) }
+    {
+        self.calls.push(f)?;
+        Ok(())
+    }
+}
+
+fn weigh_simple(w: &mut Weight, simple: &BoundSimple) -> Result<(), AllocError>
+    ensures { OnOk result (Weighs (λ sizes. simple_size sizes simple.now) w.old w.new) }
+{
+    match simple {
+        BoundSimple::Assign(_, right) => match right {
+            BoundRight::Call(f, args) => {
+                w.count(1)?;
+                w.count(args.len() as u64)?;
+                w.call(*f)?;
+                Ok(())
+            }
+            _ => {
+                w.count(1)?;
+                Ok(())
+            }
+        },
+        BoundSimple::Print(items) => {
+            w.count(1)?;
+            w.count(items.len() as u64)?;
+            Ok(())
+        }
+        _ => {
+            w.count(1)?;
+            Ok(())
+        }
+    }
+}
+
+// Simple statements one after the other.
+fn weigh_simples(w: &mut Weight, simples: &[LinedSimple]) -> Result<(), AllocError>
+    ensures { OnOk result (Weighs (λ sizes. simples_size sizes simples.now) w.old w.new) }
+{
+    'parts: for part in simples {
+        weigh_simple(w, &part.simple)?;
+    }
+    Ok(())
+}
+
+// What a `for` does after each turn.
+fn weigh_after(w: &mut Weight, after: &Option<LinedSimple>) -> Result<(), AllocError>
+    ensures { OnOk result (Weighs (λ sizes. after_size sizes after.now) w.old w.new) }
+{
+    match after {
+        None => Ok(()),
+        Some(after) => {
+            weigh_simple(w, &after.simple)?;
+            Ok(())
+        }
+    }
+}
+
+// The statement after `else`, if there is one.
+#[cycle(weigh)]
+#[tactic(auto, unfolding(ooo_shapes::specs::Sizes::stat_size))]
+fn weigh_else(w: &mut Weight, no: &Option<Boxed<BoundStat>>) -> Result<(), AllocError>
+    ensures { OnOk result (Weighs (λ sizes. else_size sizes no.now) w.old w.new) }
+{
+    match no {
+        None => Ok(()),
+        Some(stat) => {
+            weigh_stat(w, stat.get())?;
+            Ok(())
+        }
+    }
+}
+
+#[cycle(weigh)]
+#[tactic(auto, unfolding(ooo_shapes::specs::Sizes::stat_size))]
+fn weigh_stat(w: &mut Weight, stat: &BoundStat) -> Result<(), AllocError>
+    ensures { OnOk result (Weighs (λ sizes. stat_size sizes stat.now) w.old w.new) }
+{
+    match stat {
+        BoundStat::Block(body) => {
+            weigh_body(w, body.as_slice())?;
+            Ok(())
+        }
+        BoundStat::Simple(part) => {
+            weigh_simple(w, &part.simple)?;
+            Ok(())
+        }
+        BoundStat::If(_, _, yes, no) => {
+            w.count(1)?;
+            weigh_stat(w, yes.get())?;
+            weigh_else(w, no)?;
+            Ok(())
+        }
+        BoundStat::While(_, _, body) => {
+            w.count(1)?;
+            weigh_stat(w, body.get())?;
+            Ok(())
+        }
+        BoundStat::Do(_, body, _) => {
+            weigh_stat(w, body.get())?;
+            w.count(1)?;
+            Ok(())
+        }
+        BoundStat::For(_, begin, _, after, body) => {
+            weigh_simples(w, begin.as_slice())?;
+            w.count(1)?;
+            weigh_after(w, after)?;
+            weigh_stat(w, body.get())?;
+            Ok(())
+        }
+        BoundStat::Break(_) | BoundStat::Continue(_) | BoundStat::Return(_, _) => {
+            w.count(1)?;
+            Ok(())
+        }
+    }
+}
+
+// The statements of a body.
+#[cycle(weigh)]
+#[tactic(auto, unfolding(ooo_shapes::specs::Sizes::stat_size))]
+fn weigh_body(w: &mut Weight, body: &[BoundStat]) -> Result<(), AllocError>
+    ensures { OnOk result (Weighs (λ sizes. body_size sizes body.now) w.old w.new) }
+{
+    'parts: for stat in body {
+        weigh_stat(w, stat)?;
+    }
+    Ok(())
+}
+
+// A body by itself.
+fn weight_of(alloc: Global, body: &[BoundStat]) -> Result<Weight, AllocError>
+    ensures { IfOk result (λ w. IsWeightOf w body.now) }
+{
+    let mut w = Weight::new(alloc);
+    weigh_body(&mut w, body)?;
+    Ok(w)
+}
+
+// The bodies of functions.
+fn weights_of(alloc: Global, functions: &[BoundFunction]) -> Result<Items<Weight>, AllocError>
+    ensures { IfOk result (λ ws. AreWeighed ws functions.now) }
+{
+    let mut all = Items::new(alloc);
+    'functions: for function in functions {
+        let weight = weight_of(alloc, function.body.as_slice())?;
+        all.push(weight)?;
+    }
+    Ok(all)
+}
+
+// What is left once the size of a body is taken, where calls are nested no deeper than this; nothing, where it is more.
+#[cycle(spend)]
+fn spend_weight(weights: &[Weight], depth: usize, w: &Weight, left: u64) -> Option<u64>
+    ensures { IsLeft (weight_by (sizes_by depth weights.now) w.now) left result }
+{
+    match left.checked_sub(w.own) {
+        None => None,
+        Some(rest) => spend(weights, depth, w.calls.as_slice(), rest),
+    }
+}
+
+// The same of a function that is called, if there is it.
+#[cycle(spend)]
+fn spend_call(weights: &[Weight], depth: usize, f: u32, left: u64) -> Option<u64>
+    ensures { IsLeft (sizes_by depth weights.now f) left result }
+{
+    if depth == 0 {
+        return Some(left);
+    }
+    match at(weights, f as usize) {
+        None => Some(left),
+        Some(w) => spend_weight(weights, depth - 1, w, left),
+    }
+}
+
+// The same of calls one after the other.
+#[cycle(spend)]
+fn spend(weights: &[Weight], depth: usize, calls: &[u32], left: u64) -> Option<u64>
+    ensures { IsLeft (calls_size (sizes_by depth weights.now) calls.now) left result }
+{
+    let mut rest = left;
+    'calls: for f in calls {
+        match spend_call(weights, depth, *f, rest) {
+            None => return None,
+            Some(less) => rest = less,
+        }
+    }
+    Some(rest)
+}
+
+// The same of a process, which has one more than its body.
+fn spend_process(
+    alloc: Global,
+    functions: &[BoundFunction],
+    weights: &[Weight],
+    process: &BoundProcess,
+    left: u64,
+) -> Result<Option<u64>, AllocError>
+    requires { AreWeighed weights.now functions.now }
+    ensures { IfOk result (λ rest. IsLeft
+        (1 + body_size (sizes_within (length functions.now) functions.now) process.now.body) left rest) }
+{
+    let w = weight_of(alloc, process.body.as_slice())?;
+    if left == 0 {
+        return Ok(None);
+    }
+    let rest = spend_weight(weights, functions.len(), &w, left - 1);
+    Ok(rest)
+}
+
+// What is left once the sizes of processes are taken.
+fn spend_processes(
+    alloc: Global,
+    functions: &[BoundFunction],
+    weights: &[Weight],
+    processes: &[BoundProcess],
+    left: u64,
+) -> Result<Option<u64>, AllocError>
+    requires { AreWeighed weights.now functions.now }
+    ensures { IfOk result (λ rest. IsLeft
+        (processes_size (sizes_within (length functions.now) functions.now) processes.now) left rest) }
+{
+    let mut rest = left;
+    'processes: for process in processes {
+        match spend_process(alloc, functions, weights, process, rest)? {
+            None => return Ok(None),
+            Some(less) => rest = less,
+        }
+    }
+    Ok(Some(rest))
+}
+
+/// Whether the size of the code is at most this. It takes no more steps than the text has parts, and than the limit allows.
+///
+/// # Errors
+///
+/// Only where memory runs out.
+pub(crate) fn is_within(alloc: Global, model: &Bound, limit: u64) -> Result<bool, AllocError>
+    ensures { IfOk result (λ fits. IsTrue fits ↔ (code_size model.now ≤ limit)) }
+{
+    let functions = model.functions.as_slice();
+    let weights = weights_of(alloc, functions)?;
+    let rest = spend_processes(
+        alloc,
+        functions,
+        weights.as_slice(),
+        model.processes.as_slice(),
+        limit,
+    )?;
+    Ok(rest.is_some())
+}

@@ -1,0 +1,33 @@
+//! Statements without statements in them.
+
+use crate::making::{binary, int, local, set, told_thread};
+use ooo_bound::{BoundExpr, BoundTarget};
+use ooo_value::{Kind, Op, Value};
+use sqlite_items::Items;
+use std::test::Fail;
+
+const ASSIGNMENTS: &str = "thread starts [0] from 0 to 6 [b i u l ul b i u l ul i l l]
+0: $10 := 5i; line 1 counted; next 1
+1: $12 := (l $10); line 2 counted; next 2
+2: v0 := 7i; line 3 counted; next 3
+3: v1[$10] := (l (+ v0 1i)); line 4 counted; next 4
+4: s1 := (b v0); line 5 counted; next 5
+5: end; line 0; next 5
+";
+
+// A value is put into a local of each of two kinds, a variable, an element and a signal. A constant is converted at once.
+#[test]
+fn assignments(rt: HostRuntime) -> Result<(), Fail> {
+    let alloc = rt.alloc();
+    let mut body = Items::new(alloc);
+    body.push(set(1, BoundTarget::Local(Kind::Int, 0), int(5)))?;
+    body.push(set(2, BoundTarget::Local(Kind::Long, 1), local(0)))?;
+    let seven = BoundExpr::Constant(Value::Uint(7));
+    body.push(set(3, BoundTarget::Variable(0), seven))?;
+    let more = binary(alloc, Op::Add, BoundExpr::Variable(0), int(1))?;
+    body.push(set(4, BoundTarget::Element(1, local(0)), more))?;
+    body.push(set(5, BoundTarget::Signal(1), BoundExpr::Variable(0)))?;
+    let text = told_thread(alloc, body, Items::new(alloc))?;
+    assert!(rt; text.as_slice() == ASSIGNMENTS.as_bytes());
+    Ok(())
+}
