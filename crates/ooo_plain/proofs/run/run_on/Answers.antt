@@ -1,0 +1,19 @@
+use Rattle.std.proofs.Common.{subst}
+use Rattle.ooo_plain.specs.Cycles.{Cycles}
+use Rattle.ooo_plain.proofs.Reaching.{counts_below, reaches_next, is_over, shows_run}
+use Rattle.ooo_plain.proofs.run.run_on.Goals as goal
+
+pub cycle-requires-clause-counts : goal.cycle-requires-clause-counts
+cycle-requires-clause-counts c = counts_below c.args.design.now c.args.limits c.cycles.engine c.requires.few c.requires.range c.cycles.invariant
+
+pub finish-requires-clause-over : goal.finish-requires-clause-over
+finish-requires-clause-over c = is_over c.args.design.now c.args.limits c.in-Over.end c.in-Over.at c.cycles.engine c.cycle.new.self
+    (subst (λ t. Cycles c.args.design.now c.args.limits t c.cycles.engine c.cycle.new.self) c.in-Over.is c.in_ok-end.ensures) c.cycles.invariant
+
+pub returns-in-Over : goal.returns-in-Over
+returns-in-Over c = shows_run c.args.design.now c.args.limits c.in-Over.end c.in-Over.at c.cycles.engine c.cycle.new.self _
+    (subst (λ t. Cycles c.args.design.now c.args.limits t c.cycles.engine c.cycle.new.self) c.in-Over.is c.in_ok-end.ensures) c.cycles.invariant c.in_ok-run-in-Over.ensures
+
+pub cycles-preserved : goal.cycles-preserved
+cycles-preserved c = reaches_next c.args.design.now c.args.limits c.cycles.engine c.cycle.new.self
+    (subst (λ t. Cycles c.args.design.now c.args.limits t c.cycles.engine c.cycle.new.self) c.in-Goes.is c.in_ok-end.ensures) c.cycles.invariant

@@ -1,0 +1,12 @@
+pub mod Agenda
+pub mod Schedule
+pub mod Tracking
+pub mod Fitting
+pub mod Seeing
+pub mod Laws
+pub mod Opening
+pub mod Shown
+pub mod Engine
+pub mod Cycles
+pub mod Starting
+pub mod Running
