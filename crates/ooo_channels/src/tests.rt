@@ -255,6 +255,17 @@ impl Trial {
     {
         self.bank.history(alloc, 0, now)
     }
+
+    /// The entries of that history: the stamp of each, what happened, and the value.
+    fn entries(&self, alloc: Global, now: Stamp) -> Result<Vec<(Stamp, What, Value)>, AllocError>
+        requires { IsTrial self.now.kind self.now.bank self.now.last }
+    {
+        let mut told = Vec::new(alloc);
+        for entry in &self.history(alloc, now)? {
+            told.push((entry.stamp, entry.what, entry.value))?;
+        }
+        Ok(told)
+    }
 }
 
 // A signal that is written twice in a cycle shows the last value in the next delta cycle, and its change there alone; and
@@ -390,6 +401,58 @@ fn fifo_of_one(rt: HostRuntime) -> Result<(), Fail> {
     Ok(())
 }
 
+// Three values go through a fifo of one slot in six delta cycles.
+#[test]
+fn three_through_one_slot(rt: HostRuntime) -> Result<(), Fail> {
+    let mut trial = Trial::new(rt.alloc(), ChannelKind::Fifo, Kind::Uint, 1)?;
+    let wrong = trial.first_wrong(&[
+        (at(0, 0), Does(Effect::Put(0, Value::Uint(1)))),
+        (at(0, 1), Step::Value(0, Value::Uint(1))),
+        (at(0, 1), Does(Effect::Take(0))),
+        (at(0, 2), Does(Effect::Put(0, Value::Uint(2)))),
+        (at(0, 3), Step::Value(0, Value::Uint(2))),
+        (at(0, 3), Does(Effect::Take(0))),
+        (at(0, 4), Does(Effect::Put(0, Value::Uint(3)))),
+        (at(0, 5), Step::Value(0, Value::Uint(3))),
+        (at(0, 5), Does(Effect::Take(0))),
+        (at(0, 6), Available(0)),
+        (at(0, 6), Free(1)),
+    ])?;
+    assert_eq!(rt; wrong, None);
+    let expected = [
+        (at(0, 0), What::Put, Value::Uint(1)),
+        (at(0, 1), What::Took, Value::Uint(1)),
+        (at(0, 2), What::Put, Value::Uint(2)),
+        (at(0, 3), What::Took, Value::Uint(2)),
+        (at(0, 4), What::Put, Value::Uint(3)),
+        (at(0, 5), What::Took, Value::Uint(3)),
+    ];
+    let told = trial.entries(rt.alloc(), at(1, 0))?;
+    assert_eq!(rt; told.as_slice(), expected.as_slice());
+    Ok(())
+}
+
+// A slot that is freed at the first delta cycle of a later time doesn't count in that cycle.
+#[test]
+fn slot_freed_later(rt: HostRuntime) -> Result<(), Fail> {
+    let mut trial = Trial::new(rt.alloc(), ChannelKind::Fifo, Kind::Int, 1)?;
+    let wrong = trial.first_wrong(&[
+        (at(0, 0), Does(Effect::Put(0, Value::Int(1)))),
+        (at(5, 0), Step::Value(0, Value::Int(1))),
+        (at(5, 0), Does(Effect::Take(0))),
+        (at(5, 0), Free(0)),
+        (at(5, 1), Free(1)),
+    ])?;
+    assert_eq!(rt; wrong, None);
+    let expected = [
+        (at(0, 0), What::Put, Value::Int(1)),
+        (at(5, 0), What::Took, Value::Int(1)),
+    ];
+    let told = trial.entries(rt.alloc(), at(6, 0))?;
+    assert_eq!(rt; told.as_slice(), expected.as_slice());
+    Ok(())
+}
+
 // In one cycle what was read stands in the history before what was written.
 #[test]
 fn history_of_a_fifo(rt: HostRuntime) -> Result<(), Fail> {
@@ -405,10 +468,7 @@ fn history_of_a_fifo(rt: HostRuntime) -> Result<(), Fail> {
         (at(1, 1), Step::Value(1, Value::Int(3))),
     ])?;
     assert_eq!(rt; wrong, None);
-    let mut told = Vec::new(rt.alloc());
-    for entry in &trial.history(rt.alloc(), at(2, 0))? {
-        told.push((entry.stamp, entry.what, entry.value))?;
-    }
+    let told = trial.entries(rt.alloc(), at(2, 0))?;
     let expected = [
         (at(0, 0), What::Put, Value::Int(1)),
         (at(0, 0), What::Put, Value::Int(2)),
