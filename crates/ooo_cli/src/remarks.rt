@@ -1,10 +1,13 @@
 use ooo_messages::{
     elab_breach, elab_reason, lexer_breach, lexer_reason, parser_breach, parser_reason,
-    types_breach, types_reason, words_reason,
+    stop_reason, types_breach, types_reason, words_reason,
 };
 use ooo_sim::{MOST_BYTES, Status};
 use ooo_words::{Command, WordsError, read};
 use std::alloc::Global;
+
+// The line that refuses words where no time stops the run.
+const STOP_MISSING: &[u8] = b"refused words StopMissing\n";
 
 /// Says that a model is read from the terminal, where the words may ask for that.
 pub fn remark_terminal(rt: &impl Eprint, words: &[String]) {
@@ -21,7 +24,7 @@ pub fn remark_terminal(rt: &impl Eprint, words: &[String]) {
 pub fn remark(rt: &impl Eprint, alloc: Global, status: Status, words: &[String], line: &[u8]) {
     match status {
         Status::Done | Status::Faulted => {}
-        Status::WordsRefused => remark_words(rt, &read(alloc, words)),
+        Status::WordsRefused => remark_words(rt, &read(alloc, words), line),
         Status::TextRefused => remark_text(rt, line),
         Status::SourceFailed => say(rt, "standard input can't be read"),
         Status::SinkFailed => say(rt, "standard output can't be written"),
@@ -47,7 +50,8 @@ pub fn remark_unread(rt: &impl Eprint, status: Status) {
     }
 }
 
-fn remark_words(rt: &impl Eprint, asked: &Result<Command, WordsError>) {
+// Words that are read are refused for what isn't built, or for the stop time that neither they nor the text have.
+fn remark_words(rt: &impl Eprint, asked: &Result<Command, WordsError>, line: &[u8]) {
     match asked {
         Err(WordsError::Refused(breach, word)) => {
             let reason = words_reason(*breach);
@@ -61,6 +65,7 @@ fn remark_words(rt: &impl Eprint, asked: &Result<Command, WordsError>) {
                 None => say_refused(rt, reason),
             }
         }
+        _ if line == STOP_MISSING => say_refused(rt, stop_reason()),
         _ => say_refused(rt, "what they ask for isn't built yet"),
     }
     say_use(rt);

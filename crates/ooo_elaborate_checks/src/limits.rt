@@ -207,3 +207,29 @@ fn limit_of_arrays(rt: HostRuntime) -> Result<(), Fail> {
 fn limit_of_children(rt: HostRuntime) -> Result<(), Fail> {
     try_limit(&rt, rt.alloc(), LIMITS[10])
 }
+
+// A text that breaks two limits by one declaration is refused for the limit that is told first.
+fn try_both(rt: &impl Abort, alloc: Global, text: &[u8], wanted: &str) -> Result<(), Fail> {
+    let found = outcome(rt, alloc, text)?;
+    assert!(rt; found.as_slice() == wanted.as_bytes(), "{wanted}");
+    Ok(())
+}
+
+// The last clock is one process and one object too many.
+#[test]
+fn process_before_object(rt: HostRuntime) -> Result<(), Fail> {
+    let alloc = rt.alloc();
+    let mut text = repeated(alloc, "int sc_main(int, char*[]) {\n", 3840, SIGNAL, "")?;
+    let clocks = repeated(alloc, "", 257, CLOCK, "}\n")?;
+    text.extend_from_slice(clocks.as_slice())?;
+    try_both(&rt, alloc, text.as_slice(), "TooManyProcesses 4098:10 c256")
+}
+
+// The array is one object too many, and has too many elements.
+#[test]
+fn object_before_cells(rt: HostRuntime) -> Result<(), Fail> {
+    let alloc = rt.alloc();
+    let mut text = repeated(alloc, BODY, 4095, EVENT, "int z[1048577];\n")?;
+    text.extend_from_slice(LAST.as_bytes())?;
+    try_both(&rt, alloc, text.as_slice(), "TooManyObjects 4098:5 n.z")
+}

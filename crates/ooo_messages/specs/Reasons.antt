@@ -25,6 +25,10 @@ words_reason words.NoValue = codes "the option has no value"
 words_reason words.BadValue = codes "the option's value is out of form or range"
 words_reason words.Twice = codes "the option is given twice"
 
+-- what is wrong with words that ask for the run of a text, where neither of them stops it
+abbrev pub stop_reason : List ℕ
+stop_reason = codes "neither --stop nor the text's sc_start says when the run ends"
+
 -- what is wrong with a text that can't be cut
 abbrev pub lexer_reason : LexBreach → List ℕ
 lexer_reason lexer.BadByte = codes "this byte begins no token and no escape"

@@ -6,7 +6,7 @@ mod reasons;
 
 pub use reasons::{
     elab_breach, elab_reason, lexer_breach, lexer_reason, parser_breach, parser_reason,
-    types_breach, types_reason, words_reason,
+    stop_reason, types_breach, types_reason, words_reason,
 };
 
 #[cfg(test)]

@@ -1,6 +1,6 @@
 ghost use Rattle.std.specs.Prelude.{◌≡◌};
 ghost use Rattle.ooo_messages.specs.Reasons.{breach_named, lexer_reason, parse_breach_named, parser_reason, type_breach_named};
-ghost use Rattle.ooo_messages.specs.Reasons.{elab_breach_named, elab_reason, types_reason, words_reason};
+ghost use Rattle.ooo_messages.specs.Reasons.{elab_breach_named, elab_reason, stop_reason, types_reason, words_reason};
 
 use ooo_checked::TypeBreach;
 use ooo_lexer::LexBreach;
@@ -20,6 +20,13 @@ pub fn words_reason(breach: WordsBreach) -> &'static str
         WordsBreach::BadValue => "the option's value is out of form or range",
         WordsBreach::Twice => "the option is given twice",
     }
+}
+
+/// What is wrong with words that ask for the run of a text, where neither of them stops it.
+pub fn stop_reason() -> &'static str
+    ensures { result.now ≡ stop_reason }
+{
+    "neither --stop nor the text's sc_start says when the run ends"
 }
 
 /// What is wrong with a text that can't be cut into tokens.

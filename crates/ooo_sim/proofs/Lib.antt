@@ -1,6 +1,6 @@
 pub mod Bytes
 pub mod Writing
 pub mod Words
-pub mod Fronts
+pub mod Forms
 pub mod Readings
 pub mod Answers

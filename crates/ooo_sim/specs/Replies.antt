@@ -5,14 +5,14 @@ use Rattle.ooo_threads.specs.declared.model.ThreadModel.{ThreadModel}
 use Rattle.ooo_threads.specs.Ready.{IsReportOf}
 use Rattle.ooo_words.specs.Refused.{refusal_line as words_line}
 use Rattle.ooo_words.specs.declared.refused.WordsError.{WordsError}
-use Rattle.ooo_sim.specs.declared.front.Refusal.{Refusal}
 use Rattle.ooo_sim.specs.declared.reply.Reply.{Reply}
 use Rattle.ooo_sim.specs.declared.reply.TheConstants.{MOST_BYTES}
 use Rattle.ooo_sim.specs.declared.request.Request.{Request}
 use Rattle.ooo_sim.specs.declared.request.Request.TheVariants as request
 use Rattle.ooo_sim.specs.declared.status.Status.{Status}
 use Rattle.ooo_sim.specs.declared.status.Status.TheVariants as status
-use Rattle.ooo_sim.specs.Refusals.{IsTextOf, IsRefused, refusal_line}
+use Rattle.ooo_sim.specs.Lines.{refusal_line}
+use Rattle.ooo_sim.specs.Readings.{IsReadAs, Models, NotBuilt, Reading, Refuses, Unstopped}
 use Rattle.ooo_sim.specs.Requests.{request_of}
 
 -- a status, and the text that is written
@@ -25,11 +25,17 @@ pub record Reports (stop : Option Time) (m : ThreadModel) (r : Reply) : Type 0 w
   pub report : IsReportOf stop m text
   pub is : r ≡ reply status.Done text
 
--- the reply to a text, with a stop time in place of its own if one is given: it is too long; a layer refuses it; or it is a model's, and has a run
+-- the reply to a text that is read in this way
+abbrev pub IsReplyOf : Option Time → Reading → Reply → Type 0
+IsReplyOf stop (Refuses why) r = r ≡ reply status.TextRefused (refusal_line why)
+IsReplyOf stop Unstopped r = r ≡ reply status.WordsRefused (codes "refused words StopMissing\n")
+IsReplyOf stop NotBuilt r = r ≡ reply status.TextRefused (codes "refused form NotBuilt\n")
+IsReplyOf stop (Models m) r = Reports stop m r
+
+-- the reply to a text, with a stop time in place of its own if one is given: it is too long, or it is read
 pub data IsTextReply (stop : Option Time) (text : List ℕ) (r : Reply) : Type 0 where
   too_long : MOST_BYTES < length text → r ≡ reply status.SourceTooLong (codes "refused source TooLong\n") → IsTextReply stop text r
-  refused : length text ≤ MOST_BYTES → (why : Refusal) → IsRefused text why → r ≡ reply status.TextRefused (refusal_line why) → IsTextReply stop text r
-  ran : length text ≤ MOST_BYTES → (m : ThreadModel) → IsTextOf text m → Reports stop m r → IsTextReply stop text r
+  read : length text ≤ MOST_BYTES → (a : Reading) → IsReadAs stop text a → IsReplyOf stop a r → IsTextReply stop text r
 
 -- the reply to a request, from the bytes that it reads
 abbrev pub IsReplyTo : Result Request WordsError → List ℕ → Reply → Type 0

@@ -25,7 +25,8 @@ use std::thread::Threads;
 ///
 /// The command `plain` reads a model text from the source, runs it by the sequential scheduler up to its stop time, or
 /// to that of `--stop`, and writes its report to the sink. Words that are refused give one line, and so do those that
-/// ask for what isn't built: the other commands, and the limits of `plain`.
+/// ask for what isn't built (the other commands, and the limits of `plain`), or for the run of a text that nothing
+/// stops.
 pub fn alone<So: Source, Si: Sink>(
     alloc: Global,
     words: &[String],

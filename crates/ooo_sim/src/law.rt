@@ -2,20 +2,17 @@
 
 ghost use Rattle.std.specs.Prelude.{◌≡◌, [], ◌∷◌, None, Ok, codes};
 ghost use Rattle.ooo_sim.specs.declared.request.Request.TheVariants as request;
-ghost use Rattle.ooo_sim.specs.Laws.{HasOneRefusal, IsOfOneModel, IsNotBoth, LeavesNoneOut, HasOneReply};
+ghost use Rattle.ooo_sim.specs.Laws.{HasOneReading, HasOneReply, LeavesNoneOut};
 ghost use Rattle.ooo_sim.specs.Requests.{request_of};
 
-/// A text is refused, or it is a model's, not both, and in one way at most.
+/// A text is refused, or has no stop time, or is a model's of the form that is built so far, or is none's: one of these,
+/// in one way.
 pub fn one_reading()
-    ensures refusal { HasOneRefusal }
-    ensures model { IsOfOneModel }
-    ensures not_both { IsNotBoth }
+    ensures one { HasOneReading }
     ensures either { LeavesNoneOut }
 {
+    ooo_front::law::one_answer();
     ooo_lexer::law::one_cutting();
-    ooo_lexer::law::one_breach();
-    ooo_parser::law::one_answer();
-    ooo_types::law::one_breach();
     ooo_threads::law::one_model();
 }
 

@@ -1,12 +1,12 @@
 //! The program's calls: what a simulation reads, runs and writes.
 //!
 //! [`alone`] and [`simulate`] carry the whole contract of the program. `specs/Replies.antt` says what a call would write,
-//! as one relation of the words, the bytes that they have read, and a reply; `specs/Refusals.antt` which texts the layers
-//! refuse, and `specs/Calls.antt` what a call reads and writes of its source and its sink.
+//! as one relation of the words, the bytes that they have read, and a reply; `specs/Readings.antt` what a text is to a
+//! call, and `specs/Calls.antt` what a call reads and writes of its source and its sink.
 #![tactic(auto)]
 
 mod call;
-mod front;
+mod form;
 pub mod law;
 mod lines;
 mod pump;
@@ -15,7 +15,6 @@ mod request;
 mod status;
 
 pub use call::{alone, simulate};
-pub use front::Refusal;
 pub use reply::{MOST_BYTES, Reply};
 pub use request::Request;
 pub use status::Status;

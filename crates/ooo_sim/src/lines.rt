@@ -1,23 +1,24 @@
-ghost use Rattle.std.specs.Prelude.{◌≡◌, ◌++◌, IfOk, OnOk};
-ghost use Rattle.ooo_sim.specs.Refusals.{elaborate_line, layer_head, layer_line, names_text, refusal_line};
+ghost use Rattle.std.specs.Prelude.{◌≡◌, ◌≢◌, ◌++◌, IfOk, OnOk};
+ghost use Rattle.ooo_sim.specs.Lines.{elaborate_line, layer_head, layer_line, names_text, refusal_line};
 
-use crate::front::Refusal;
 use itoa::Buffer;
+use ooo_front::Refused;
 use ooo_lexer::Position;
 use ooo_value::Name;
-use ooo_walk::Refusal as ElabRefusal;
+use ooo_walk::Refusal;
 use std::alloc::{AllocError, Global};
 
-/// The line that refuses a text.
-pub(crate) fn refusal_line(alloc: Global, refusal: &Refusal) -> Result<Vec<u8>, AllocError>
-    ensures { IfOk result (λ line. line.items ≡ refusal_line refusal.now) }
+/// The line that refuses a text. Want of memory has none.
+pub(crate) fn refusal_line(alloc: Global, why: &Refused) -> Result<Vec<u8>, AllocError>
+    ensures line { IfOk result (λ line. line.items ≡ refusal_line why.now) }
+    ensures refused { OnOk result (why.now ≢ Refused.OutOfMemory) }
 {
-    match refusal {
-        Refusal::Lexer(breach, at) => layer_line(alloc, "lexer", breach.name(), *at),
-        Refusal::Parser(breach, at) => layer_line(alloc, "parser", breach.name(), *at),
-        Refusal::Types(breach, at) => layer_line(alloc, "types", breach.name(), *at),
-        Refusal::Elaborate(why) => elaborate_line(alloc, why),
-        Refusal::NotBuilt => Vec::from_slice(alloc, b"refused form NotBuilt\n"),
+    match why {
+        Refused::Lexer(breach, at) => layer_line(alloc, "lexer", breach.name(), *at),
+        Refused::Parser(breach, at) => layer_line(alloc, "parser", breach.name(), *at),
+        Refused::Types(breach, at) => layer_line(alloc, "types", breach.name(), *at),
+        Refused::Elaborate(why) => elaborate_line(alloc, why),
+        Refused::OutOfMemory => Err(AllocError),
     }
 }
 
@@ -57,7 +58,7 @@ fn add_names(names: &[Name], line: &mut Vec<u8>) -> Result<(), AllocError>
 }
 
 // The line of elaboration, which names what it is about.
-fn elaborate_line(alloc: Global, refusal: &ElabRefusal) -> Result<Vec<u8>, AllocError>
+fn elaborate_line(alloc: Global, refusal: &Refusal) -> Result<Vec<u8>, AllocError>
     ensures { IfOk result (λ line. line.items ≡ elaborate_line refusal.now) }
 {
     let mut line = layer_head(alloc, "elaborate", refusal.what.name(), refusal.at)?;

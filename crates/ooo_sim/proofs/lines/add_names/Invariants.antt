@@ -1,5 +1,5 @@
 use Rattle.std.proofs.Common.{◌≡◌, ◌++◌, drop}
-use Rattle.ooo_sim.specs.Refusals.{names_text}
+use Rattle.ooo_sim.specs.Lines.{names_text}
 use Rattle.ooo_sim.proofs.lines.add_names.Given as goal
 
 abbrev pub invariant-parts : goal.invariant-parts

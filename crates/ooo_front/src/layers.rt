@@ -1,0 +1,71 @@
+ghost use Rattle.std.specs.Prelude.{◌≤◌, length, All};
+ghost use Rattle.ooo_lexer.specs.Spans.{AreInOrder, IsWithin};
+ghost use Rattle.ooo_lexer.specs.declared.position.TheConstants.{MOST_BYTES};
+ghost use Rattle.ooo_elaborate.specs.Elaborated.{IsAnswerTo as IsElaboration};
+ghost use Rattle.ooo_front.specs.Layers.{IsAnswerTo, elaborated};
+ghost use Rattle.ooo_front.specs.Steps.{IsModelAnswer, IsTokenAnswer, IsTreeAnswer};
+
+use crate::answer::{Accepted, Refused};
+use ooo_bound::Bound;
+use ooo_elaborate::elaborate;
+use ooo_lexer::{Token, lex};
+use ooo_parser::parse;
+use ooo_syntax::Unit;
+use ooo_types::{Checked, check};
+use ooo_walk::ElabError;
+use std::alloc::Global;
+
+/// Goes with a text through lexer, parser, types and elaboration.
+///
+/// # Errors
+///
+/// What the first layer that refuses the text refuses, or `OutOfMemory` where memory ran out.
+pub fn front(alloc: Global, source: &[u8]) -> Result<Accepted, Refused>
+    requires { length source.now ≤ MOST_BYTES }
+    ensures { IsAnswerTo source.now result }
+{
+    let tokens = lex(alloc, source)?;
+    front_of_tokens(alloc, source, &tokens)
+}
+
+// The tokens of a text, through parser, types and elaboration.
+#[tactic(auto, using(crate::proofs::Answers::tokens_answered))]
+fn front_of_tokens(alloc: Global, text: &[u8], tokens: &[Token]) -> Result<Accepted, Refused>
+    requires short { length text.now ≤ MOST_BYTES }
+    requires within { All (IsWithin text.now) tokens.now }
+    requires in_order { AreInOrder tokens.now }
+    ensures { IsTokenAnswer text.now tokens.now result }
+{
+    match parse(alloc, text, tokens) {
+        Ok(tree) => front_of_tree(alloc, tree),
+        Err(error) => Err(Refused::from(error)),
+    }
+}
+
+// The tree of a text, through types and elaboration.
+#[tactic(auto, using(crate::proofs::Answers::tree_answered))]
+fn front_of_tree(alloc: Global, tree: Unit) -> Result<Accepted, Refused>
+    ensures { IsTreeAnswer tree result }
+{
+    match check(alloc, &tree) {
+        Ok(checked) => front_of_checked(alloc, checked),
+        Err(error) => Err(Refused::from(error)),
+    }
+}
+
+// A text whose names and types are right, through elaboration.
+fn front_of_checked(alloc: Global, checked: Checked) -> Result<Accepted, Refused>
+    ensures { IsModelAnswer (elaborated checked) result }
+{
+    match bound(alloc, checked) {
+        Ok(bound) => Ok(Accepted { bound }),
+        Err(error) => Err(Refused::from(error)),
+    }
+}
+
+// The bound model of a text whose names and types are right, or why it has none.
+fn bound(alloc: Global, checked: Checked) -> Result<Bound, ElabError>
+    ensures { IsElaboration (elaborated checked) result }
+{
+    elaborate(alloc, checked.tree())
+}

@@ -1,0 +1,13 @@
+//! The front: goes with a text from layer to layer, through lexer, parser, types and elaboration.
+//!
+//! Proved: [`front`] answers what the first layer that refuses the text refuses, or what the text is accepted as where
+//! none does; or memory runs out. `specs/Layers` says so layer by layer. A text has one answer, and none is left out
+//! (module `law`).
+#![tactic(auto)]
+
+mod answer;
+pub mod law;
+mod layers;
+
+pub use answer::{Accepted, Refused};
+pub use layers::front;
