@@ -1,0 +1,14 @@
+pub mod Lists
+pub mod Functions
+pub mod Clocks
+pub mod Calls
+pub mod Touched
+pub mod Modules
+pub mod Naming
+pub mod Bodies
+pub mod Whole
+pub mod Kept
+pub mod Registered
+pub mod Ordered
+pub mod Walks
+pub mod Ended

@@ -1,0 +1,4 @@
+pub mod Parts
+pub mod Ports
+pub mod Numbering
+pub mod Clocks

@@ -1,0 +1,5 @@
+pub mod Values
+pub mod Walked
+pub mod Parts
+pub mod Names
+pub mod Clocks
