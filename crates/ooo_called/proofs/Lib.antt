@@ -1,0 +1,4 @@
+pub mod Exprs
+pub mod Lists
+pub mod Scopes
+pub mod Stats

@@ -1,0 +1,4 @@
+pub mod Files
+pub mod Mains
+pub mod Notes
+pub mod Scopes

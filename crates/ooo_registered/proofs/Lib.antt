@@ -1,0 +1,7 @@
+pub mod Lists
+pub mod Notes
+pub mod Waiting
+pub mod Inside
+pub mod Turns
+pub mod Setups
+pub mod Laws
