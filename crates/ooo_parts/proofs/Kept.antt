@@ -1,6 +1,6 @@
 -- What holds of a walk and is kept by the steps that add no process and no instance.
 use Rattle.std.proofs.Common.{◌≡◌, refl, ℕ, ◌+◌, ◌-◌, List, [], ◌∷◌, ◌++◌, length, Bool, true, false, Option, Some, None, slice_set}
-use Rattle.std.specs.Prelude.{⊤, codes, ◌==◌, nat_lt, nat_le, if◌then◌else◌, is_some, slice_get, Result, Ok, Err}
+use Rattle.std.specs.Prelude.{⊤, codes, ◌==◌, nat_lt, nat_le, if◌then◌else◌, is_some, slice_get, Result, Ok, Err, IfOk}
 use Rattle.ooo_time.specs.declared.time.Time.{Time}
 use Rattle.ooo_lexer.specs.declared.position.Position.{Position}
 use Rattle.ooo_value.specs.declared.bound.BoundChannel.{BoundChannel}
@@ -47,6 +47,7 @@ use Rattle.ooo_walk.specs.Instances.{after_args}
 use Rattle.ooo_walk.specs.Plans.{Viewed}
 use Rattle.ooo_walk.specs.Texts.{item_of, after_room, stop_timed, start_of}
 use Rattle.ooo_walk.specs.declared.state.WalkedProcess.{WalkedProcess}
+use Rattle.ooo_parts.proofs.Times.{IsInTime, time_within}
 
 -- no port is meant
 abbrev pub IsNoPort : Meaning → Type 0
@@ -59,7 +60,7 @@ pub record IsQuiet (P : Walk → Type 0) : Type 0 where
   pub objects : (w : Walk) (n : ℕ) → P w → P (record w { objects = n })
   pub cells : (w : Walk) (n : ℕ) → P w → P (record w { cells = n })
   pub file : (w : Walk) (ms : List Meaning) → P w → P (record w { file = ms })
-  pub stop : (w : Walk) (t : Option Time) → P w → P (record w { stop = t })
+  pub stop : (w : Walk) (t : Time) → IsInTime t → P w → P (record w { stop = Some t })
   pub resets : (w : Walk) (x : ℕ) (b : BoundVariable) (v : Value) → slice_get w.variables x ≡ Some b → P w →
       P (record w { variables = slice_set w.variables x (record b { start = v }) })
   pub binding : (w : Walk) (i name p : ℕ) (d : Denotation) (at : Position) → port_in (slice_get w.instances i) name ≡ Some (meaning.Port p) → P w →
@@ -183,16 +184,17 @@ module _ (P : Walk → Type 0) (k : IsQuiet P) where
       elim (nat_lt (length w.processes) 256) as (λ t. P (if t then w else refused what.TooManyProcesses at name w))
       [ true ↦ h | false ↦ refused_keeps what.TooManyProcesses at name w h ]
 
-  pub stop_keeps : (at : Position) (t : Result Time TimeBreach) → Keeps P (stop_timed at t)
-  stop_keeps at (Ok t) w h =
+  pub stop_keeps : (at : Position) (t : Result Time TimeBreach) → IfOk t IsInTime → Keeps P (stop_timed at t)
+  stop_keeps at (Ok t) within w h =
       elim (t.0 == 0) as (λ b. P (if b then refused what.BadConstant at (codes "sc_start") w else record w { stop = Some t }))
-      [ true ↦ refused_keeps what.BadConstant at (codes "sc_start") w h | false ↦ k.stop w _ h ]
-  stop_keeps at (Err breach) w h = refused_keeps (as_breach breach) at (codes "sc_start") w h
+      [ true ↦ refused_keeps what.BadConstant at (codes "sc_start") w h | false ↦ k.stop w t within h ]
+  stop_keeps at (Err breach) within w h = refused_keeps (as_breach breach) at (codes "sc_start") w h
 
   pub start_form_keeps : (o : Option CheckedStartForm) → Keeps P (start_of o)
   start_form_keeps None w h = h
   start_form_keeps (Some (start.Open at)) w h = h
-  start_form_keeps (Some (start.Limited at t)) w h = stop_keeps (place_of t) (time_of (known_here w) t) w h
+  start_form_keeps (Some (start.Limited at t)) w h =
+      stop_keeps (place_of t) (time_of (known_here w) t) (time_within (known_here w) t) w h
 
 -- ---- steps that declare names
 
@@ -304,7 +306,7 @@ at_quiet R = record {
   objects = λ w n h. h;
   cells = λ w n h. h;
   file = λ w ms h. h;
-  stop = λ w t h. h;
+  stop = λ w t within h. h;
   resets = λ w x b v is h. h;
   binding = λ w i name p d at is h. h;
 }

@@ -7,8 +7,11 @@ pub mod Modules
 pub mod Naming
 pub mod Bodies
 pub mod Whole
+pub mod Times
 pub mod Kept
 pub mod Registered
 pub mod Ordered
 pub mod Walks
 pub mod Ended
+pub mod Stops
+pub mod Names

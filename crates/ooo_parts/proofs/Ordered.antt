@@ -207,7 +207,7 @@ ordered_quiet S = record {
   objects = λ w n h. h;
   cells = λ w n h. h;
   file = λ w ms h. h;
-  stop = λ w t h. h;
+  stop = λ w t within h. h;
   resets = λ w x b v is h. h;
   binding = λ w i name p d at is h. binding_more S (length w.ports) w.instances w.bindings w.here.members h
       (record { port = p; to = end_of d w; at = at }) (port_over w.instances i name p (slice_get w.instances i) refl is) (end_named d w);

@@ -2,6 +2,7 @@
 
 ghost use Rattle.ooo_parts.specs.Calls.{CallsAreClosed, CallsFall};
 ghost use Rattle.ooo_parts.specs.Ends.{EndsAreThere};
+ghost use Rattle.ooo_parts.specs.Reports.{AllHaveNames, StopsInTime};
 ghost use Rattle.ooo_parts.specs.Whole.{AllPortsEnd, BodiesOfTextsFit, ProcessesAreRegistered, SoundByParts};
 
 /// The names of functions that a process reaches are all that its code calls.
@@ -53,6 +54,20 @@ pub fn registered()
 /// Each port of a text that has a model is bound to a channel in the end.
 pub fn ports_end()
     ensures { AllPortsEnd }
+{
+    ooo_soundness::law::passes();
+}
+
+/// The stop time of a text's model, where it has one, is at most the greatest time.
+pub fn stops()
+    ensures { StopsInTime }
+{
+    ooo_soundness::law::passes();
+}
+
+/// Each process and each channel of a text's model has a name.
+pub fn named()
+    ensures { AllHaveNames }
 {
     ooo_soundness::law::passes();
 }
