@@ -40,6 +40,7 @@ fn refusal_line(alloc: Global, why: &Refused) -> Result<Vec<u8>, AllocError> {
         Refused::Parser(_, place) => at(alloc, "parser", *place),
         Refused::Types(_, place) => at(alloc, "types", *place),
         Refused::Elaborate(refusal) => refused(alloc, refusal),
+        Refused::CodeTooLarge => Vec::from_slice(alloc, b"CodeTooLarge"),
         Refused::OutOfMemory => Err(AllocError),
     }
 }

@@ -1,6 +1,7 @@
 -- A text has one answer. The laws of the layers are premises.
-use Rattle.std.proofs.Common.{◌≡◌, ◌⊎◌, inl, inr, ◌∙◌, ℕ, List, [], refl, sym, ap, subst, ⊎_elim}
+use Rattle.std.proofs.Common.{◌≡◌, ◌⊎◌, inl, inr, ◌∙◌, arith, ℕ, List, [], refl, sym, ap, subst, ⊎_elim}
 use Rattle.std.specs.Prelude.{Result, Ok, Err}
+use Rattle.std.proofs.lemmas.Bool.{cases_lt}
 use Rattle.ooo_lexer.specs.Breaches.{HasBreach}
 use Rattle.ooo_lexer.specs.Laws.{IsCutOneWay, HasOneBreach, HasNoCutting, IsCutOrBroken}
 use Rattle.ooo_lexer.specs.Positions.{position_of_end}
@@ -15,12 +16,20 @@ use Rattle.ooo_checked.specs.declared.breach.Breach.{Breach}
 use Rattle.ooo_checked.specs.declared.breach.TypeBreach.{TypeBreach}
 use Rattle.ooo_types.specs.Told.{HasOneBreach as HasOneTypeBreach, IsEither, IsLeast, IsNotBoth, breaches_of}
 use Rattle.ooo_bound.specs.declared.model.Bound.{Bound}
+use Rattle.ooo_code.specs.declared.design.Design.{Design}
 use Rattle.ooo_walk.specs.declared.refusal.Refusal.{Refusal}
 use Rattle.ooo_front.specs.declared.answer.Accepted.{Accepted}
 use Rattle.ooo_front.specs.declared.answer.Refused.{Refused}
 use Rattle.ooo_front.specs.declared.answer.Refused.TheVariants as refused
-use Rattle.ooo_front.specs.Layers.{IsElaborated, IsFrontOf, IsMisspelled, IsMistyped, IsSpelled, elaborated, text_symbols}
+use Rattle.ooo_shapes.specs.Designs.{design_of}
+use Rattle.ooo_shapes.specs.Sizes.{code_size}
+use Rattle.ooo_lower.specs.declared.designs.TheConstants.{GREATEST_SIZE}
+use Rattle.ooo_front.specs.Layers.{IsAccepted, IsElaborated, IsFrontOf, IsMisspelled, IsMistyped, IsSpelled, IsTooLarge, elaborated, text_symbols}
 use Rattle.ooo_front.specs.Laws.{HasAnswer, HasOneAnswer}
+
+-- what is accepted, of its two parts
+abbrev accepted_of : Bound → Design → Accepted
+accepted_of m d = record { bound = m; design = d }
 
 module _ (cut : IsCutOneWay) (uncut : HasNoCutting) (answer : OneAnswer) (typed : IsNotBoth) where
   -- what the lexer refuses is not cut, so it is not spelled
@@ -50,10 +59,23 @@ module _ (cut : IsCutOneWay) (uncut : HasNoCutting) (answer : OneAnswer) (typed 
   one_end : (text : List ℕ) {x y : Result Bound Refusal} → IsElaborated text x → IsElaborated text y → x ≡ y
   one_end text a b = sym a.is ∙ ap elaborated (one_tree text a.spelled b.spelled) ∙ b.is
 
-  one_model : (text : List ℕ) (a b : Accepted) → IsElaborated text (Ok a.bound) → IsElaborated text (Ok b.bound) → a ≡ b
-  one_model text a b r s = ap (λ (m : Bound). record { bound = m }) (same a.bound b.bound (Ok a.bound) (Ok b.bound) refl refl (one_end text r s)) where
-    same : (m n : Bound) (x y : Result Bound Refusal) → x ≡ Ok m → y ≡ Ok n → x ≡ y → m ≡ n
-    same m n x y p q e = cc
+  one_bound : (text : List ℕ) (a b : Bound) → IsElaborated text (Ok a) → IsElaborated text (Ok b) → a ≡ b
+  one_bound text a b r s = same (Ok a) (Ok b) refl refl (one_end text r s) where
+    same : (x y : Result Bound Refusal) → x ≡ Ok a → y ≡ Ok b → x ≡ y → a ≡ b
+    same x y p q e = cc
+
+  one_model : (text : List ℕ) (a b : Accepted) → IsAccepted text a → IsAccepted text b → a ≡ b
+  one_model text a b r s =
+      let models : a.bound ≡ b.bound = one_bound text a.bound b.bound r.elaborated s.elaborated in
+      let designs : a.design ≡ b.design = r.lowered.design ∙ ap design_of models ∙ sym s.lowered.design in
+      ap (λ (m : Bound). accepted_of m a.design) models ∙ ap (λ (d : Design). accepted_of b.bound d) designs
+
+  -- the code of its model is too large, or it isn't
+  fits_or_not : (text : List ℕ) (a : Accepted) → IsAccepted text a → IsTooLarge text → ⊥
+  fits_or_not text a r s =
+      let models : a.bound ≡ s.bound = one_bound text a.bound s.bound r.elaborated s.elaborated in
+      let size : code_size a.bound ≡ code_size s.bound = ap code_size models in
+      omega (arith, size, r.lowered.within, s.large)
 
   one_reason : (text : List ℕ) (a b : Refusal) → IsElaborated text (Err a) → IsElaborated text (Err b) → a ≡ b
   one_reason text a b r s = same (Err a) (Err b) refl refl (one_end text r s) where
@@ -89,40 +111,60 @@ module _ (cut : IsCutOneWay) (uncut : HasNoCutting) (answer : OneAnswer) (typed 
 
     pub one_answer : HasOneAnswer
     one_answer text (Ok a) (Ok b) r s = ap Ok (one_model text a b r s)
-    one_answer text (Ok a) (Err (refused.Lexer c there)) r s = absurd (uncut_spelled text s r.spelled)
-    one_answer text (Ok a) (Err (refused.Parser c there)) r s = absurd (apart text s r.spelled)
-    one_answer text (Ok a) (Err (refused.Types c there)) r s = absurd (wrong_or_right text s r.spelled r.right)
-    one_answer text (Ok a) (Err (refused.Elaborate why)) r s = absurd (not_both text r s)
+    one_answer text (Ok a) (Err (refused.Lexer c there)) r s = absurd (uncut_spelled text s r.elaborated.spelled)
+    one_answer text (Ok a) (Err (refused.Parser c there)) r s = absurd (apart text s r.elaborated.spelled)
+    one_answer text (Ok a) (Err (refused.Types c there)) r s = absurd (wrong_or_right text s r.elaborated.spelled r.elaborated.right)
+    one_answer text (Ok a) (Err (refused.Elaborate why)) r s = absurd (not_both text r.elaborated s)
+    one_answer text (Ok a) (Err refused.CodeTooLarge) r s = absurd (fits_or_not text a r s)
     one_answer text (Ok a) (Err refused.OutOfMemory) r s = absurd s
-    one_answer text (Err (refused.Lexer b at)) (Ok c) r s = absurd (uncut_spelled text r s.spelled)
+    one_answer text (Err (refused.Lexer b at)) (Ok c) r s = absurd (uncut_spelled text r s.elaborated.spelled)
     one_answer text (Err (refused.Lexer b at)) (Err (refused.Lexer c there)) r s = ap Err (one_break text b c at there r s)
     one_answer text (Err (refused.Lexer b at)) (Err (refused.Parser c there)) r s = absurd (uncut text b at s.pieces r s.cut)
     one_answer text (Err (refused.Lexer b at)) (Err (refused.Types c there)) r s = absurd (uncut_spelled text r s.spelled)
     one_answer text (Err (refused.Lexer b at)) (Err (refused.Elaborate why)) r s = absurd (uncut_spelled text r s.spelled)
+    one_answer text (Err (refused.Lexer b at)) (Err refused.CodeTooLarge) r s = absurd (uncut_spelled text r s.elaborated.spelled)
     one_answer text (Err (refused.Lexer b at)) (Err refused.OutOfMemory) r s = absurd s
-    one_answer text (Err (refused.Parser b at)) (Ok c) r s = absurd (apart text r s.spelled)
+    one_answer text (Err (refused.Parser b at)) (Ok c) r s = absurd (apart text r s.elaborated.spelled)
     one_answer text (Err (refused.Parser b at)) (Err (refused.Lexer c there)) r s = absurd (uncut text c there r.pieces s r.cut)
     one_answer text (Err (refused.Parser b at)) (Err (refused.Parser c there)) r s = ap Err (one_misspelling text b c at there r s)
     one_answer text (Err (refused.Parser b at)) (Err (refused.Types c there)) r s = absurd (apart text r s.spelled)
     one_answer text (Err (refused.Parser b at)) (Err (refused.Elaborate why)) r s = absurd (apart text r s.spelled)
+    one_answer text (Err (refused.Parser b at)) (Err refused.CodeTooLarge) r s = absurd (apart text r s.elaborated.spelled)
     one_answer text (Err (refused.Parser b at)) (Err refused.OutOfMemory) r s = absurd s
-    one_answer text (Err (refused.Types b at)) (Ok c) r s = absurd (wrong_or_right text r s.spelled s.right)
+    one_answer text (Err (refused.Types b at)) (Ok c) r s = absurd (wrong_or_right text r s.elaborated.spelled s.elaborated.right)
     one_answer text (Err (refused.Types b at)) (Err (refused.Lexer c there)) r s = absurd (uncut_spelled text s r.spelled)
     one_answer text (Err (refused.Types b at)) (Err (refused.Parser c there)) r s = absurd (apart text s r.spelled)
     one_answer text (Err (refused.Types b at)) (Err (refused.Types c there)) r s = ap Err (one_mistyping text b c at there r s)
     one_answer text (Err (refused.Types b at)) (Err (refused.Elaborate why)) r s = absurd (wrong_or_right text r s.spelled s.right)
+    one_answer text (Err (refused.Types b at)) (Err refused.CodeTooLarge) r s = absurd (wrong_or_right text r s.elaborated.spelled s.elaborated.right)
     one_answer text (Err (refused.Types b at)) (Err refused.OutOfMemory) r s = absurd s
-    one_answer text (Err (refused.Elaborate why)) (Ok c) r s = absurd (not_both text s r)
+    one_answer text (Err (refused.Elaborate why)) (Ok c) r s = absurd (not_both text s.elaborated r)
     one_answer text (Err (refused.Elaborate why)) (Err (refused.Lexer c there)) r s = absurd (uncut_spelled text s r.spelled)
     one_answer text (Err (refused.Elaborate why)) (Err (refused.Parser c there)) r s = absurd (apart text s r.spelled)
     one_answer text (Err (refused.Elaborate why)) (Err (refused.Types c there)) r s = absurd (wrong_or_right text s r.spelled r.right)
     one_answer text (Err (refused.Elaborate why)) (Err (refused.Elaborate c)) r s = ap (λ (x : Refusal). Err (refused.Elaborate x)) (one_reason text why c r s)
+    one_answer text (Err (refused.Elaborate why)) (Err refused.CodeTooLarge) r s = absurd (not_both text s.elaborated r)
     one_answer text (Err (refused.Elaborate why)) (Err refused.OutOfMemory) r s = absurd s
+    one_answer text (Err refused.CodeTooLarge) (Ok c) r s = absurd (fits_or_not text c s r)
+    one_answer text (Err refused.CodeTooLarge) (Err (refused.Lexer c there)) r s = absurd (uncut_spelled text s r.elaborated.spelled)
+    one_answer text (Err refused.CodeTooLarge) (Err (refused.Parser c there)) r s = absurd (apart text s r.elaborated.spelled)
+    one_answer text (Err refused.CodeTooLarge) (Err (refused.Types c there)) r s = absurd (wrong_or_right text s r.elaborated.spelled r.elaborated.right)
+    one_answer text (Err refused.CodeTooLarge) (Err (refused.Elaborate why)) r s = absurd (not_both text r.elaborated s)
+    one_answer text (Err refused.CodeTooLarge) (Err refused.CodeTooLarge) r s = refl
+    one_answer text (Err refused.CodeTooLarge) (Err refused.OutOfMemory) r s = absurd s
     one_answer text (Err refused.OutOfMemory) b r s = absurd r
+
+-- a bound model has a design, or its code is too large
+lowered_answer : (text : List ℕ) (b : Bound) → IsElaborated text (Ok b) → (a : Result Accepted Refused) × IsFrontOf text a
+lowered_answer text b is =
+    ⊎_elim
+    (λ large. (Err refused.CodeTooLarge, record { bound = b; elaborated = is; large = large }))
+    (λ fits. (Ok (record { bound = b; design = design_of b }), record { elaborated = is; lowered = record { design = refl; within = fits } }))
+    (cases_lt GREATEST_SIZE (code_size b))
 
 -- a text whose names and types are right can't be elaborated, or has a bound model
 right_answer : (text : List ℕ) (t : UnitSpec) → IsSpelled text t → breaches_of t ≡ [] → (to : Result Bound Refusal) → elaborated t ≡ to → (a : Result Accepted Refused) × IsFrontOf text a
-right_answer text t s right (Ok b) is = (Ok (record { bound = b }), record { tree = t; spelled = s; right = right; is = is })
+right_answer text t s right (Ok b) is = lowered_answer text b (record { tree = t; spelled = s; right = right; is = is })
 right_answer text t s right (Err why) is = (Err (refused.Elaborate why), record { tree = t; spelled = s; right = right; is = is })
 
 -- a breach is told as its parts

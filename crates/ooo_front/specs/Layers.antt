@@ -1,5 +1,5 @@
 -- What the front answers to a text, layer by layer.
-use Rattle.std.specs.Prelude.{◌≡◌, ℕ, List, [], Result, Ok, Err}
+use Rattle.std.specs.Prelude.{◌≡◌, ℕ, ◌<◌, ◌≤◌, List, [], Result, Ok, Err}
 use Rattle.ooo_lexer.specs.Breaches.{HasBreach}
 use Rattle.ooo_lexer.specs.Pieces.{Piece, Cuts}
 use Rattle.ooo_lexer.specs.Positions.{position_of_end, tokens_after}
@@ -16,6 +16,9 @@ use Rattle.ooo_types.specs.Units.{unit_of}
 use Rattle.ooo_bound.specs.declared.model.Bound.{Bound}
 use Rattle.ooo_walk.specs.declared.refusal.Refusal.{Refusal}
 use Rattle.ooo_elaborate.specs.Elaborated.{bound_of}
+use Rattle.ooo_shapes.specs.Designs.{design_of}
+use Rattle.ooo_shapes.specs.Sizes.{code_size}
+use Rattle.ooo_lower.specs.declared.designs.TheConstants.{GREATEST_SIZE}
 use Rattle.ooo_front.specs.declared.answer.Accepted.{Accepted}
 use Rattle.ooo_front.specs.declared.answer.Refused.{Refused}
 use Rattle.ooo_front.specs.declared.answer.Refused.TheVariants as refused
@@ -53,13 +56,30 @@ pub record IsElaborated (text : List ℕ) (to : Result Bound Refusal) : Type 0 w
   pub right : breaches_of tree ≡ []
   pub is : elaborated tree ≡ to
 
+-- what is accepted has the design of its bound model, whose code isn't too large
+pub record IsLowered (accepted : Accepted) : Type 0 where
+  pub design : accepted.design ≡ design_of accepted.bound
+  pub within : code_size accepted.bound ≤ GREATEST_SIZE
+
+-- the text has this bound model, and its design
+pub record IsAccepted (text : List ℕ) (accepted : Accepted) : Type 0 where
+  pub elaborated : IsElaborated text (Ok accepted.bound)
+  pub lowered : IsLowered accepted
+
+-- the text has a bound model, whose code is too large
+pub record IsTooLarge (text : List ℕ) : Type 0 where
+  pub bound : Bound
+  pub elaborated : IsElaborated text (Ok bound)
+  pub large : GREATEST_SIZE < code_size bound
+
 -- the front's answer to a text: the first layer that refuses it answers, and it is accepted where none does; no text is refused for want of memory
 abbrev pub IsFrontOf : List ℕ → Result Accepted Refused → Type 0
-IsFrontOf text (Ok accepted) = IsElaborated text (Ok accepted.bound)
+IsFrontOf text (Ok accepted) = IsAccepted text accepted
 IsFrontOf text (Err (refused.Lexer breach at)) = HasBreach text breach at
 IsFrontOf text (Err (refused.Parser breach at)) = IsMisspelled text breach at
 IsFrontOf text (Err (refused.Types breach at)) = IsMistyped text breach at
 IsFrontOf text (Err (refused.Elaborate why)) = IsElaborated text (Err why)
+IsFrontOf text (Err refused.CodeTooLarge) = IsTooLarge text
 IsFrontOf text (Err refused.OutOfMemory) = ⊥
 
 -- an answer to a text: the front's, or memory ran out

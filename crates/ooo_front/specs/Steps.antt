@@ -1,5 +1,5 @@
 -- What the front's steps answer: to a text's elaboration, to its tree, to its tokens.
-use Rattle.std.specs.Prelude.{◌≡◌, ℕ, List, [], Result, Ok, Err}
+use Rattle.std.specs.Prelude.{◌≡◌, ℕ, ◌<◌, List, [], Result, Ok, Err}
 use Rattle.ooo_lexer.specs.declared.error.LexError.{LexError}
 use Rattle.ooo_lexer.specs.declared.error.LexError.TheVariants as lexer
 use Rattle.ooo_lexer.specs.declared.token.Token.{Token}
@@ -17,10 +17,14 @@ use Rattle.ooo_bound.specs.declared.model.Bound.{Bound}
 use Rattle.ooo_walk.specs.declared.refusal.ElabError.{ElabError}
 use Rattle.ooo_walk.specs.declared.refusal.ElabError.TheVariants as elab
 use Rattle.ooo_walk.specs.declared.refusal.Refusal.{Refusal}
+use Rattle.ooo_shapes.specs.Sizes.{code_size}
+use Rattle.ooo_lower.specs.declared.designs.LowerError.{LowerError}
+use Rattle.ooo_lower.specs.declared.designs.LowerError.TheVariants as lower
+use Rattle.ooo_lower.specs.declared.designs.TheConstants.{GREATEST_SIZE}
 use Rattle.ooo_front.specs.declared.answer.Accepted.{Accepted}
 use Rattle.ooo_front.specs.declared.answer.Refused.{Refused}
 use Rattle.ooo_front.specs.declared.answer.Refused.TheVariants as refused
-use Rattle.ooo_front.specs.Layers.{elaborated}
+use Rattle.ooo_front.specs.Layers.{IsLowered, elaborated}
 
 -- ---- what a layer's error is to the front
 
@@ -40,27 +44,31 @@ abbrev pub refused_by_elaboration : ElabError → Refused
 refused_by_elaboration (elab.Refused why) = refused.Elaborate why
 refused_by_elaboration elab.OutOfMemory = refused.OutOfMemory
 
+abbrev pub refused_by_lowering : LowerError → Refused
+refused_by_lowering lower.CodeTooLarge = refused.CodeTooLarge
+refused_by_lowering lower.OutOfMemory = refused.OutOfMemory
+
 -- ---- answers
+
+-- the elaboration of a text comes to a bound model whose code is too large
+pub record ComesToLarge (to : Result Bound Refusal) : Type 0 where
+  pub bound : Bound
+  pub is : to ≡ Ok bound
+  pub large : GREATEST_SIZE < code_size bound
 
 -- an answer to what the elaboration of a text comes to
 abbrev pub IsModelAnswer : Result Bound Refusal → Result Accepted Refused → Type 0
-IsModelAnswer to (Ok accepted) = to ≡ Ok accepted.bound
+IsModelAnswer to (Ok accepted) = (to ≡ Ok accepted.bound) × IsLowered accepted
 IsModelAnswer to (Err (refused.Elaborate why)) = to ≡ Err why
+IsModelAnswer to (Err refused.CodeTooLarge) = ComesToLarge to
 IsModelAnswer to (Err refused.OutOfMemory) = Unit {0}
 IsModelAnswer to (Err _) = ⊥
 
--- the names and types of a tree are right, and its elaboration comes to this
-pub record ComesTo (tree : UnitSpec) (to : Result Bound Refusal) : Type 0 where
-  pub right : breaches_of tree ≡ []
-  pub is : elaborated tree ≡ to
-
--- an answer to a tree
+-- an answer to a tree: of one whose names and types are wrong what is told, and of another what its elaboration comes to
 abbrev pub IsTreeAnswer : UnitSpec → Result Accepted Refused → Type 0
-IsTreeAnswer tree (Ok accepted) = ComesTo tree (Ok accepted.bound)
 IsTreeAnswer tree (Err (refused.Types breach at)) = IsLeast (record { what = breach; at = at }) (breaches_of tree)
-IsTreeAnswer tree (Err (refused.Elaborate why)) = ComesTo tree (Err why)
 IsTreeAnswer tree (Err refused.OutOfMemory) = Unit {0}
-IsTreeAnswer tree (Err _) = ⊥
+IsTreeAnswer tree answer = (breaches_of tree ≡ []) × IsModelAnswer (elaborated tree) answer
 
 -- the grammar spells these tokens of a text as this tree
 abbrev pub AreSpelled : List ℕ → List Token → UnitSpec → Type 0

@@ -1,6 +1,8 @@
 use ooo_bound::Bound;
 use ooo_checked::{TypeBreach, TypeError};
+use ooo_code::Design;
 use ooo_lexer::{LexBreach, LexError, Position};
+use ooo_lower::LowerError;
 use ooo_syntax::{ParseBreach, ParseError};
 use ooo_walk::{ElabError, Refusal};
 
@@ -9,6 +11,8 @@ use ooo_walk::{ElabError, Refusal};
 pub struct Accepted {
     /// Its bound model.
     pub bound: Bound,
+    /// The design of its model: its statements as nodes.
+    pub design: Design,
 }
 
 /// Why a text was not accepted: by the layer that refuses it, or since memory ran out.
@@ -22,6 +26,8 @@ pub enum Refused {
     Types(TypeBreach, Position),
     /// The text can't be elaborated: what is refused first.
     Elaborate(Refusal),
+    /// The code of the text's model is larger than code may be.
+    CodeTooLarge,
     /// Memory ran out, which says nothing of the text.
     OutOfMemory,
 }
@@ -78,6 +84,20 @@ impl From<ElabError> for Refused {
         match error {
             ElabError::Refused(why) => Refused::Elaborate(why),
             ElabError::OutOfMemory => Refused::OutOfMemory,
+        }
+    }
+}
+
+impl From<LowerError> for Refused {
+    ghost use Rattle.std.specs.Prelude.{◌≡◌};
+    ghost use Rattle.ooo_front.specs.Steps.{refused_by_lowering};
+
+    ghost from_gives = { λ error own. own ≡ refused_by_lowering error };
+
+    fn from(error: LowerError) -> Refused {
+        match error {
+            LowerError::CodeTooLarge => Refused::CodeTooLarge,
+            LowerError::OutOfMemory => Refused::OutOfMemory,
         }
     }
 }

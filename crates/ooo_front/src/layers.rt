@@ -1,4 +1,6 @@
-ghost use Rattle.std.specs.Prelude.{◌≤◌, length, All};
+ghost use Rattle.std.specs.Prelude.{◌≤◌, length, All, IfOk, Ok};
+ghost use Rattle.ooo_activation.specs.Sound.{IsSound as IsSoundModel};
+ghost use Rattle.ooo_code.specs.Sound.{IsSound};
 ghost use Rattle.ooo_lexer.specs.Spans.{AreInOrder, IsWithin};
 ghost use Rattle.ooo_lexer.specs.declared.position.TheConstants.{MOST_BYTES};
 ghost use Rattle.ooo_elaborate.specs.Elaborated.{IsAnswerTo as IsElaboration};
@@ -9,26 +11,31 @@ use crate::answer::{Accepted, Refused};
 use ooo_bound::Bound;
 use ooo_elaborate::elaborate;
 use ooo_lexer::{Token, lex};
+use ooo_lower::lower;
 use ooo_parser::parse;
 use ooo_syntax::Unit;
 use ooo_types::{Checked, check};
 use ooo_walk::ElabError;
 use std::alloc::Global;
 
-/// Goes with a text through lexer, parser, types and elaboration.
+/// Goes with a text through lexer, parser, types, elaboration and lowering.
 ///
 /// # Errors
 ///
 /// What the first layer that refuses the text refuses, or `OutOfMemory` where memory ran out.
 pub fn front(alloc: Global, source: &[u8]) -> Result<Accepted, Refused>
     requires { length source.now ≤ MOST_BYTES }
-    ensures { IsAnswerTo source.now result }
+    ensures answer { IsAnswerTo source.now result }
+    ensures model { IfOk result (λ accepted. IsSoundModel accepted.bound) }
+    ensures design { IfOk result (λ accepted. IsSound accepted.design) }
 {
+    ooo_well_formed::law::sound();
+    ooo_shapes::law::sound_design();
     let tokens = lex(alloc, source)?;
     front_of_tokens(alloc, source, &tokens)
 }
 
-// The tokens of a text, through parser, types and elaboration.
+// The tokens of a text, through parser, types, elaboration and lowering.
 #[tactic(auto, using(crate::proofs::Answers::tokens_answered))]
 fn front_of_tokens(alloc: Global, text: &[u8], tokens: &[Token]) -> Result<Accepted, Refused>
     requires short { length text.now ≤ MOST_BYTES }
@@ -42,7 +49,7 @@ fn front_of_tokens(alloc: Global, text: &[u8], tokens: &[Token]) -> Result<Accep
     }
 }
 
-// The tree of a text, through types and elaboration.
+// The tree of a text, through types, elaboration and lowering.
 #[tactic(auto, using(crate::proofs::Answers::tree_answered))]
 fn front_of_tree(alloc: Global, tree: Unit) -> Result<Accepted, Refused>
     ensures { IsTreeAnswer tree result }
@@ -53,12 +60,23 @@ fn front_of_tree(alloc: Global, tree: Unit) -> Result<Accepted, Refused>
     }
 }
 
-// A text whose names and types are right, through elaboration.
+// A text whose names and types are right, through elaboration and lowering.
 fn front_of_checked(alloc: Global, checked: Checked) -> Result<Accepted, Refused>
     ensures { IsModelAnswer (elaborated checked) result }
 {
     match bound(alloc, checked) {
-        Ok(bound) => Ok(Accepted { bound }),
+        Ok(bound) => front_of_bound(alloc, bound),
+        Err(error) => Err(Refused::from(error)),
+    }
+}
+
+// The bound model of a text, through lowering.
+#[tactic(auto, using(crate::proofs::Answers::lowering_answered))]
+fn front_of_bound(alloc: Global, bound: Bound) -> Result<Accepted, Refused>
+    ensures { IsModelAnswer (Ok bound) result }
+{
+    match lower(alloc, &bound) {
+        Ok(design) => Ok(Accepted { bound, design }),
         Err(error) => Err(Refused::from(error)),
     }
 }
