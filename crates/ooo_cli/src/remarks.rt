@@ -1,6 +1,6 @@
 use ooo_messages::{
-    elab_breach, elab_reason, lexer_breach, lexer_reason, parser_breach, parser_reason,
-    stop_reason, types_breach, types_reason, words_reason,
+    code_reason, elab_breach, elab_reason, lexer_breach, lexer_reason, parser_breach,
+    parser_reason, stop_reason, types_breach, types_reason, words_reason,
 };
 use ooo_sim::{MOST_BYTES, Status};
 use ooo_words::{Command, WordsError, read};
@@ -23,7 +23,11 @@ pub fn remark_terminal(rt: &impl Eprint, words: &[String]) {
 /// written.
 pub fn remark(rt: &impl Eprint, alloc: Global, status: Status, words: &[String], line: &[u8]) {
     match status {
-        Status::Done | Status::Faulted => {}
+        Status::Done => {}
+        Status::Faulted => say(
+            rt,
+            "the run ended by a fault, which the report's last line names",
+        ),
         Status::WordsRefused => remark_words(rt, &read(alloc, words), line),
         Status::TextRefused => remark_text(rt, line),
         Status::SourceFailed => say(rt, "standard input can't be read"),
@@ -76,7 +80,7 @@ fn say_refused(rt: &impl Eprint, reason: &str) {
 }
 
 // A refusal's line is `refused LAYER NAME LINE:COLUMN`, with names behind it where elaboration refuses, or
-// `refused form NotBuilt`.
+// `refused lower CodeTooLarge`.
 fn remark_text(rt: &impl Eprint, line: &[u8]) {
     match str::from_utf8(line).ok().and_then(refusal_in) {
         Some((reason, line, column)) => {
@@ -84,10 +88,10 @@ fn remark_text(rt: &impl Eprint, line: &[u8]) {
                 "peljouk: the text is refused: line {line}, column {column}: {reason}"
             );
         }
-        None => say(
-            rt,
-            "the text is refused: it is no model of the form that is built so far",
-        ),
+        None => {
+            let reason = code_reason();
+            let _ = eprintln!(rt; "peljouk: the text is refused: {reason}");
+        }
     }
 }
 
@@ -126,5 +130,7 @@ fn say(rt: &impl Eprint, text: &str) {
 
 // A line for each command that is built.
 fn say_use(rt: &impl Eprint) {
-    let _ = eprintln!(rt; "usage: peljouk plain [--stop TIME] <model.cpp");
+    let _ = eprintln!(rt;
+        "usage: peljouk plain [--stop TIME] [--deltas N] [--statements N] <model.cpp"
+    );
 }

@@ -29,6 +29,10 @@ words_reason words.Twice = codes "the option is given twice"
 abbrev pub stop_reason : List ℕ
 stop_reason = codes "neither --stop nor the text's sc_start says when the run ends"
 
+-- why a model can't be lowered
+abbrev pub code_reason : List ℕ
+code_reason = codes "the code of its processes is too large, where that of each function counts anew for each call"
+
 -- what is wrong with a text that can't be cut
 abbrev pub lexer_reason : LexBreach → List ℕ
 lexer_reason lexer.BadByte = codes "this byte begins no token and no escape"

@@ -5,8 +5,8 @@ pub mod law;
 mod reasons;
 
 pub use reasons::{
-    elab_breach, elab_reason, lexer_breach, lexer_reason, parser_breach, parser_reason,
-    stop_reason, types_breach, types_reason, words_reason,
+    code_reason, elab_breach, elab_reason, lexer_breach, lexer_reason, parser_breach,
+    parser_reason, stop_reason, types_breach, types_reason, words_reason,
 };
 
 #[cfg(test)]

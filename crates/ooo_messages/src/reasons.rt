@@ -1,6 +1,6 @@
 ghost use Rattle.std.specs.Prelude.{◌≡◌};
 ghost use Rattle.ooo_messages.specs.Reasons.{breach_named, lexer_reason, parse_breach_named, parser_reason, type_breach_named};
-ghost use Rattle.ooo_messages.specs.Reasons.{elab_breach_named, elab_reason, stop_reason, types_reason, words_reason};
+ghost use Rattle.ooo_messages.specs.Reasons.{code_reason, elab_breach_named, elab_reason, stop_reason, types_reason, words_reason};
 
 use ooo_checked::TypeBreach;
 use ooo_lexer::LexBreach;
@@ -94,6 +94,13 @@ pub fn elab_reason(breach: ElabBreach) -> &'static str
         ElabBreach::OddClock => "a clock's period has to be a positive even number of picoseconds",
         ElabBreach::BadConstant => "this has no value, or none that may stand here",
     }
+}
+
+/// Why the model of a text can't be lowered.
+pub fn code_reason() -> &'static str
+    ensures { result.now ≡ code_reason }
+{
+    "the code of its processes is too large, where that of each function counts anew for each call"
 }
 
 /// The breach of elaboration that has this name.

@@ -1,46 +1,62 @@
 -- Words have one reply. The laws of texts and runs are premises.
-use Rattle.std.proofs.Common.{◌≡◌, ◌≢◌, ℕ, ◌≤◌, List, Option, Result, Ok, Err, IfOk, OnOk, length, refl, sym, ap, subst, ◌∙◌, arith}
+use Rattle.std.proofs.Common.{◌≡◌, ◌≢◌, ℕ, ◌≤◌, List, Option, Some, None, Result, Ok, Err, IfOk, OnOk, length, refl, sym, ap, subst, ◌∙◌, arith}
+use Rattle.std.specs.Prelude.{IfSome}
 use Rattle.ooo_time.specs.declared.time.Time.{Time}
-use Rattle.ooo_threads.specs.declared.model.ThreadModel.{ThreadModel}
-use Rattle.ooo_threads.specs.Laws.{HasOneReport}
+use Rattle.ooo_time.specs.Scales.{greatest_time}
+use Rattle.ooo_bound.specs.declared.model.Bound.{Bound}
+use Rattle.ooo_code.specs.declared.limits.Limits.{Limits}
+use Rattle.ooo_meaning.specs.Runs as nodes
+use Rattle.ooo_meaning.specs.Sequence as sequence
+use Rattle.ooo_activation.specs.Sound.{IsSound}
+use Rattle.ooo_shapes.specs.Designs.{design_of}
 use Rattle.ooo_words.specs.declared.refused.WordsError.{WordsError}
+use Rattle.ooo_words.specs.Limits.{StopsInTime}
 use Rattle.ooo_front.specs.declared.answer.Refused.{Refused}
 use Rattle.ooo_front.specs.declared.answer.Refused.TheVariants as why
 use Rattle.ooo_front.specs.Layers.{IsAnswerTo, IsFrontOf}
+use Rattle.ooo_plain.specs.Cycles.{AreInRange as AreRunLimits}
 use Rattle.ooo_sim.specs.declared.reply.Reply.{Reply}
 use Rattle.ooo_sim.specs.declared.reply.TheConstants.{MOST_BYTES}
+use Rattle.ooo_sim.specs.declared.request.Asked.{Asked}
 use Rattle.ooo_sim.specs.declared.request.Request.{Request}
 use Rattle.ooo_sim.specs.declared.request.Request.TheVariants as request
 use Rattle.ooo_sim.specs.declared.status.Status.TheVariants as status
-use Rattle.ooo_sim.specs.Laws.{HasOneReading, HasOneReply}
+use Rattle.ooo_sim.specs.Laws.{AcceptedAreReady, HasOneReading, HasOneReply}
 use Rattle.ooo_sim.specs.Lines.{refusal_line}
-use Rattle.ooo_sim.specs.Readings.{IsReadAs, Models, NotBuilt, Reading, Refuses, Unstopped}
-use Rattle.ooo_sim.specs.Replies.{reply, Reports, IsReplyOf, IsTextReply, too_long, read, IsReplyTo}
-use Rattle.ooo_sim.specs.Requests.{request_of}
+use Rattle.ooo_sim.specs.Readings.{IsReadAs, Models, Reading, Refuses, Unstopped, stop_of}
+use Rattle.ooo_sim.specs.Replies.{reply, Reports, limits_of, report_of, status_of, IsReplyOf, IsTextReply, too_long, read, IsReplyTo}
+use Rattle.ooo_sim.specs.Requests.{AreInRange, request_of}
+use Rattle.ooo_sim.proofs.Reports.{AreSame, by_nodes}
 
-module _ (one_reading : HasOneReading) (one_report : HasOneReport) where
-  one_run : (stop : Option Time) (m : ThreadModel) (a b : Reply) → Reports stop m a → Reports stop m b → a ≡ b
-  one_run stop m a b x y =
-      x.is ∙ ap (λ z. reply status.Done z) (one_report stop m x.text y.text x.report y.report) ∙ sym y.is
+-- the sequential run of a design is one
+abbrev pub HasOneRun : Type 0
+HasOneRun = (d : sequence.Result) (b : Bound) (limits : Limits) (q : sequence.Result) → nodes.IsSequentialRun (design_of b) limits d →
+    nodes.IsSequentialRun (design_of b) limits q → d ≡ q
+
+module _ (one_reading : HasOneReading) (ready : AcceptedAreReady) (same : AreSame) (one_run : HasOneRun) where
+  one_report : (b : Bound) (limits : Limits) → IsSound b → (x y : Reply) → Reports b limits x → Reports b limits y → x ≡ y
+  one_report b limits sound x y p q =
+      p.is ∙ ap (λ r. reply (status_of r.end) (report_of b.names r))
+      (one_run p.result b limits q.result (by_nodes same b limits p.result sound p.run) (by_nodes same b limits q.result sound q.run)) ∙ sym q.is
 
   -- a text that is read in one way has one reply
-  one_of : (stop : Option Time) (r : Reading) (a b : Reply) → IsReplyOf stop r a → IsReplyOf stop r b → a ≡ b
-  one_of stop (Refuses why) a b h k = h ∙ sym k
-  one_of stop Unstopped a b h k = h ∙ sym k
-  one_of stop NotBuilt a b h k = h ∙ sym k
-  one_of stop (Models m) a b h k = one_run stop m a b h k
+  one_of : (asked : Asked) (text : List ℕ) (r : Reading) (a b : Reply) → IsReadAs asked.stop text r → IsReplyOf asked r a → IsReplyOf asked r b → a ≡ b
+  one_of asked text (Refuses why) a b is h k = h ∙ sym k
+  one_of asked text Unstopped a b is h k = h ∙ sym k
+  one_of asked text (Models m stop) a b is h k =
+      one_report m (limits_of asked stop) (subst IsSound is.model (ready text is.accepted is.is).sound) a b h k
 
-  one_text : (stop : Option Time) (text : List ℕ) (a b : Reply) → IsTextReply stop text a → IsTextReply stop text b → a ≡ b
-  one_text stop text a b (too_long h e) (too_long k f) = e ∙ sym f
-  one_text stop text a b (too_long h e) (read k s t f) = absurd (omega arith)
-  one_text stop text a b (read h r t e) (too_long k f) = absurd (omega arith)
-  one_text stop text a b (read h r t e) (read k s u f) =
-      one_of stop s a b (subst (λ z. IsReplyOf stop z a) (one_reading stop text r s t u) e) f
+  one_text : (asked : Asked) (text : List ℕ) (a b : Reply) → IsTextReply asked text a → IsTextReply asked text b → a ≡ b
+  one_text asked text a b (too_long h e) (too_long k f) = e ∙ sym f
+  one_text asked text a b (too_long h e) (read k s t f) = absurd (omega arith)
+  one_text asked text a b (read h r t e) (too_long k f) = absurd (omega arith)
+  one_text asked text a b (read h r t e) (read k s u f) =
+      one_of asked text s a b u (subst (λ z. IsReplyOf asked z a) (one_reading asked.stop text r s t u) e) f
 
-  one_to : (asked : Result Request WordsError) (bytes : List ℕ) (a b : Reply) → IsReplyTo asked bytes a → IsReplyTo asked bytes b → a ≡ b
+  one_to : (to : Result Request WordsError) (bytes : List ℕ) (a b : Reply) → IsReplyTo to bytes a → IsReplyTo to bytes b → a ≡ b
   one_to (Err breach) bytes a b h k = h ∙ sym k
   one_to (Ok request.NotBuilt) bytes a b h k = h ∙ sym k
-  one_to (Ok (request.Plain stop)) bytes a b h k = one_text stop bytes a b h k
+  one_to (Ok (request.Plain asked)) bytes a b h k = one_text asked bytes a b h k
 
   pub one_reply : HasOneReply
   one_reply words bytes a b h k = one_to (request_of words) bytes a b h k
@@ -51,14 +67,35 @@ front_refusal text (why.Lexer breach at) some is = is
 front_refusal text (why.Parser breach at) some is = is
 front_refusal text (why.Types breach at) some is = is
 front_refusal text (why.Elaborate e) some is = is
+front_refusal text why.CodeTooLarge some is = is
 front_refusal text why.OutOfMemory some is = absurd (some refl)
 
 -- the reply to a text that is read
-module _ {E : Type 0} (stop : Option Time) (text : List ℕ) (short : length text ≤ MOST_BYTES) where
-  pub replies : (a : Reading) → IsReadAs stop text a → (r : Result Reply E) → IfOk r (IsReplyOf stop a) → IfOk r (IsTextReply stop text)
+module _ {E : Type 0} (asked : Asked) (text : List ℕ) (short : length text ≤ MOST_BYTES) where
+  pub replies : (a : Reading) → IsReadAs asked.stop text a → (r : Result Reply E) → IfOk r (IsReplyOf asked a) → IfOk r (IsTextReply asked text)
   replies a is (Ok r) h = read short a is h
   replies a is (Err e) h = tt
 
-  pub refuses : (e : Refused) → IsAnswerTo text (Err e) → (r : Result Reply E) → OnOk r (e ≢ why.OutOfMemory) → IfOk r (λ z. z ≡ reply status.TextRefused (refusal_line e)) → IfOk r (IsTextReply stop text)
+  pub refuses : (e : Refused) → IsAnswerTo text (Err e) → (r : Result Reply E) → OnOk r (e ≢ why.OutOfMemory) → IfOk r (λ z. z ≡ reply status.TextRefused (refusal_line e)) → IfOk r (IsTextReply asked text)
   refuses e is (Ok r) some h = read short (Refuses e) (front_refusal text e some is) h
   refuses e is (Err x) some h = tt
+
+-- ---- limits
+
+-- the limits of a run are in range, where what is asked and the model's own stop time are
+pub run_limits : (asked : Asked) (b : Bound) (stop : Time) → AreInRange asked → IfSome b.stop (λ t. t.0 ≤ greatest_time) →
+    stop_of asked.stop b ≡ Some stop → AreRunLimits (limits_of asked stop)
+run_limits asked b stop range own is = record {
+  stop = by asked.stop range.stop is;
+  some_deltas = range.deltas.from;
+  deltas = range.deltas.to;
+  some_statements = range.statements.from;
+  statements = range.statements.to;
+} where
+  of_some : (o : Option Time) → IfSome o (λ t. t.0 ≤ greatest_time) → o ≡ Some stop → stop.0 ≤ greatest_time
+  of_some None h e = absurd cc
+  of_some (Some t) h e = let same : t ≡ stop = cc in subst (λ (x : Time). x.0 ≤ greatest_time) same h
+
+  by : (given : Option Time) → StopsInTime given → stop_of given b ≡ Some stop → stop.0 ≤ greatest_time
+  by None h e = of_some b.stop own e
+  by (Some t) h e = of_some (Some t) h e

@@ -1,6 +1,5 @@
 pub mod Bytes
 pub mod Writing
-pub mod Words
-pub mod Forms
 pub mod Readings
+pub mod Reports
 pub mod Answers

@@ -1,47 +1,76 @@
 -- What a call would write: one relation of the words, the bytes that are read, and a reply.
-use Rattle.std.specs.Prelude.{◌≡◌, ℕ, ◌<◌, ◌≤◌, List, [], Option, Result, Ok, Err, codes, length, unwrap_or}
+use Rattle.std.specs.Prelude.{◌≡◌, ℕ, ◌<◌, ◌≤◌, List, [], ◌++◌, Result as Answer, Ok, Err, codes, length, unwrap_or}
 use Rattle.ooo_time.specs.declared.time.Time.{Time}
-use Rattle.ooo_threads.specs.declared.model.ThreadModel.{ThreadModel}
-use Rattle.ooo_threads.specs.Ready.{IsReportOf}
+use Rattle.ooo_value.specs.declared.naming.Names.{Names}
+use Rattle.ooo_bound.specs.declared.model.Bound.{Bound}
+use Rattle.ooo_code.specs.declared.limits.Limits.{Limits}
+use Rattle.ooo_history.specs.declared.run.End.{End}
+use Rattle.ooo_history.specs.declared.run.End.TheVariants as end
+use Rattle.ooo_history.specs.Reporting.{closed, end_text, histories_text}
+use Rattle.ooo_meaning.specs.Sequence.{Result, output_of}
+use Rattle.ooo_activation.specs.Runs.{IsSequentialRun}
 use Rattle.ooo_words.specs.Refused.{refusal_line as words_line}
 use Rattle.ooo_words.specs.declared.refused.WordsError.{WordsError}
 use Rattle.ooo_sim.specs.declared.reply.Reply.{Reply}
 use Rattle.ooo_sim.specs.declared.reply.TheConstants.{MOST_BYTES}
+use Rattle.ooo_sim.specs.declared.request.Asked.{Asked}
 use Rattle.ooo_sim.specs.declared.request.Request.{Request}
 use Rattle.ooo_sim.specs.declared.request.Request.TheVariants as request
 use Rattle.ooo_sim.specs.declared.status.Status.{Status}
 use Rattle.ooo_sim.specs.declared.status.Status.TheVariants as status
 use Rattle.ooo_sim.specs.Lines.{refusal_line}
-use Rattle.ooo_sim.specs.Readings.{IsReadAs, Models, NotBuilt, Reading, Refuses, Unstopped}
+use Rattle.ooo_sim.specs.Readings.{IsReadAs, Models, Reading, Refuses, Unstopped}
 use Rattle.ooo_sim.specs.Requests.{request_of}
 
 -- a status, and the text that is written
 abbrev pub reply : Status → List ℕ → Reply
 reply status text = record { status = status; text = text }
 
--- the reply reports a run of the model, up to the given stop time or its own
-pub record Reports (stop : Option Time) (m : ThreadModel) (r : Reply) : Type 0 where
-  pub text : List ℕ
-  pub report : IsReportOf stop m text
-  pub is : r ≡ reply status.Done text
+-- ---- reports
+
+-- the limits of a run that stops at this time
+abbrev pub limits_of : Asked → Time → Limits
+limits_of asked stop = record { stop = stop; deltas = asked.deltas; statements = asked.statements }
+
+-- the status that tells how a run ended
+abbrev pub status_of : End → Status
+status_of (end.Time t) = status.Done
+status_of (end.Idle s) = status.Done
+status_of (end.Stop s) = status.Done
+status_of (end.Fault f at line) = status.Faulted
+status_of (end.Statements at line) = status.LimitReached
+status_of (end.Deltas s) = status.LimitReached
+
+-- the report of what a run gives: what was printed, the histories, and how the run ended
+abbrev pub report_of : Names → Result → List ℕ
+report_of names r =
+    closed (output_of r) ++ codes "== histories\n" ++ histories_text names.channels r.histories
+    ++ codes "== end\n" ++ end_text names.processes r.end ++ codes "\n"
+
+-- the reply reports the sequential run of a model within these limits, as its statements say
+pub record Reports (b : Bound) (limits : Limits) (r : Reply) : Type 0 where
+  pub result : Result
+  pub run : IsSequentialRun b limits result
+  pub is : r ≡ reply (status_of result.end) (report_of b.names result)
+
+-- ---- replies
 
 -- the reply to a text that is read in this way
-abbrev pub IsReplyOf : Option Time → Reading → Reply → Type 0
-IsReplyOf stop (Refuses why) r = r ≡ reply status.TextRefused (refusal_line why)
-IsReplyOf stop Unstopped r = r ≡ reply status.WordsRefused (codes "refused words StopMissing\n")
-IsReplyOf stop NotBuilt r = r ≡ reply status.TextRefused (codes "refused form NotBuilt\n")
-IsReplyOf stop (Models m) r = Reports stop m r
+abbrev pub IsReplyOf : Asked → Reading → Reply → Type 0
+IsReplyOf asked (Refuses why) r = r ≡ reply status.TextRefused (refusal_line why)
+IsReplyOf asked Unstopped r = r ≡ reply status.WordsRefused (codes "refused words StopMissing\n")
+IsReplyOf asked (Models b stop) r = Reports b (limits_of asked stop) r
 
--- the reply to a text, with a stop time in place of its own if one is given: it is too long, or it is read
-pub data IsTextReply (stop : Option Time) (text : List ℕ) (r : Reply) : Type 0 where
-  too_long : MOST_BYTES < length text → r ≡ reply status.SourceTooLong (codes "refused source TooLong\n") → IsTextReply stop text r
-  read : length text ≤ MOST_BYTES → (a : Reading) → IsReadAs stop text a → IsReplyOf stop a r → IsTextReply stop text r
+-- the reply to a text of which a run is asked: the text is too long, or it is read
+pub data IsTextReply (asked : Asked) (text : List ℕ) (r : Reply) : Type 0 where
+  too_long : MOST_BYTES < length text → r ≡ reply status.SourceTooLong (codes "refused source TooLong\n") → IsTextReply asked text r
+  read : length text ≤ MOST_BYTES → (a : Reading) → IsReadAs asked.stop text a → IsReplyOf asked a r → IsTextReply asked text r
 
 -- the reply to a request, from the bytes that it reads
-abbrev pub IsReplyTo : Result Request WordsError → List ℕ → Reply → Type 0
+abbrev pub IsReplyTo : Answer Request WordsError → List ℕ → Reply → Type 0
 IsReplyTo (Err breach) bytes r = r ≡ reply status.WordsRefused (unwrap_or (words_line breach) [])
 IsReplyTo (Ok request.NotBuilt) bytes r = r ≡ reply status.WordsRefused (codes "refused words NotBuilt\n")
-IsReplyTo (Ok (request.Plain stop)) bytes r = IsTextReply stop bytes r
+IsReplyTo (Ok (request.Plain asked)) bytes r = IsTextReply asked bytes r
 
 -- the reply to words, from the bytes that they have read
 abbrev pub IsReply : List (List ℕ) → List ℕ → Reply → Type 0

@@ -1,11 +1,11 @@
 -- What the words ask for, of what is built.
-use Rattle.std.specs.Prelude.{ℕ, Bool, false, ◌||◌, ◌+◌, List, Result, Ok, Err, codes, nat_eq, map, string_bytes, String}
-use Rattle.std.specs.List.{list_any, starts_with}
-use Rattle.ooo_threads.specs.Ready.{StopsInTime}
+use Rattle.std.specs.Prelude.{ℕ, ◌+◌, List, Result, Ok, Err, map, string_bytes, String}
 use Rattle.ooo_words.specs.declared.command.Command.{Command}
 use Rattle.ooo_words.specs.declared.command.Command.TheVariants as command
 use Rattle.ooo_words.specs.declared.refused.WordsError.{WordsError}
+use Rattle.ooo_words.specs.Limits.{IsBetween, StopsInTime, most_deltas, most_statements}
 use Rattle.ooo_words.specs.Reading.{reading}
+use Rattle.ooo_sim.specs.declared.request.Asked.{Asked}
 use Rattle.ooo_sim.specs.declared.request.Request.{Request}
 use Rattle.ooo_sim.specs.declared.request.Request.TheVariants as request
 use Rattle.ooo_sim.specs.declared.reply.TheConstants.{MOST_BYTES}
@@ -14,27 +14,29 @@ use Rattle.ooo_sim.specs.declared.reply.TheConstants.{MOST_BYTES}
 abbrev pub words_of : {A : Type 0} → List (String A) → List (List ℕ)
 words_of words = map string_bytes words
 
--- a word that gives a limit of delta cycles or of statements
-abbrev pub is_limit : List ℕ → Bool
-is_limit word = starts_with nat_eq word (codes "--deltas") || starts_with nat_eq word (codes "--statements")
-
--- what a command asks for; the commands but `plain`, and its limits, aren't built
-abbrev pub request_for : Bool → Result Command WordsError → Result Request WordsError
-request_for limited (Err e) = Err e
-request_for false (Ok (command.Plain stop deltas statements)) = Ok (request.Plain stop)
-request_for _ (Ok c) = Ok request.NotBuilt
+-- what a command asks for; the commands but `plain` aren't built
+abbrev pub request_for : Result Command WordsError → Result Request WordsError
+request_for (Err e) = Err e
+request_for (Ok (command.Plain stop deltas statements)) =
+    Ok (request.Plain (record { stop = stop; deltas = deltas; statements = statements }))
+request_for (Ok c) = Ok request.NotBuilt
 
 -- what the words ask for, read from left to right
 abbrev pub request_of : List (List ℕ) → Result Request WordsError
-request_of words = request_for (list_any is_limit words) (reading words)
+request_of words = request_for (reading words)
 
 -- how many bytes of its source a request reads: one more than a source may have, or none
 abbrev pub bytes_wanted : Result Request WordsError → ℕ
-bytes_wanted (Ok (request.Plain stop)) = MOST_BYTES + 1
+bytes_wanted (Ok (request.Plain asked)) = MOST_BYTES + 1
 bytes_wanted (Ok request.NotBuilt) = 0
 bytes_wanted (Err e) = 0
 
--- the stop time of a request, where it has one, is one that a model may name
-abbrev pub AsksInTime : Request → Type 0
-AsksInTime (request.Plain stop) = StopsInTime stop
-AsksInTime request.NotBuilt = Unit {0}
+-- what is asked of a run is in range
+pub record AreInRange (asked : Asked) : Type 0 where
+  pub stop : StopsInTime asked.stop
+  pub deltas : IsBetween 1 most_deltas asked.deltas
+  pub statements : IsBetween 1 most_statements asked.statements
+
+abbrev pub AsksInRange : Request → Type 0
+AsksInRange (request.Plain asked) = AreInRange asked
+AsksInRange request.NotBuilt = Unit {0}

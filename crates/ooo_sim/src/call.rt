@@ -1,21 +1,19 @@
 ghost use Rattle.std.specs.Prelude.{◌≡◌, ◌≢◌, ◌+◌, [], Ok, Err, IfOk, IfSome, IsErrOf, IsSome};
 ghost use Rattle.ooo_outside.specs.Causes.{Rose};
-ghost use Rattle.ooo_threads.specs.Ready.{StopsInTime};
 ghost use Rattle.ooo_words.specs.Refused.{refusal_line};
 ghost use Rattle.ooo_sim.specs.Calls.{Wrote, Took, IsReplyFrom};
 ghost use Rattle.ooo_sim.specs.Pumps.{GaveFirst, AppendsPrefix};
 ghost use Rattle.ooo_sim.specs.Replies.{IsReplyTo, reply};
-ghost use Rattle.ooo_sim.specs.Requests.{words_of, request_of, bytes_wanted};
+ghost use Rattle.ooo_sim.specs.Requests.{AreInRange, words_of, request_of, bytes_wanted};
 ghost use Rattle.ooo_sim.specs.Statuses.{IsFailure};
 ghost use Rattle.ooo_sim.specs.declared.request.Request.TheVariants as request;
 
 use crate::law::one_reply;
 use crate::pump::{ReadError, read_text, write_text};
 use crate::reply::{MOST_BYTES, Reply, reply_to};
-use crate::request::{Request, read_request};
+use crate::request::{Asked, Request, read_request};
 use crate::status::Status;
 use ooo_outside::{Failed, Gate, Sink, Source};
-use ooo_time::Time;
 use ooo_words::{WordsError, refusal};
 use std::alloc::{AllocError, Global};
 use std::sync::Wait;
@@ -24,9 +22,9 @@ use std::thread::Threads;
 /// Does what the words ask for, where no worker threads are needed, and answers the status.
 ///
 /// The command `plain` reads a model text from the source, runs it by the sequential scheduler up to its stop time, or
-/// to that of `--stop`, and writes its report to the sink. Words that are refused give one line, and so do those that
-/// ask for what isn't built (the other commands, and the limits of `plain`), or for the run of a text that nothing
-/// stops.
+/// to that of `--stop`, within the limits of `--deltas` and `--statements`, and writes its report to the sink. A text
+/// that is refused gives one line, and so do words that are refused, that ask for what isn't built (the other commands),
+/// or for the run of a text that nothing stops.
 pub fn alone<So: Source, Si: Sink>(
     alloc: Global,
     words: &[String],
@@ -93,7 +91,7 @@ fn answer<So: Source>(alloc: Global, words: &[String], source: &mut So) -> Resul
         → Rose (So.faults source.old) (So.faults source.new) }
 {
     match read_request(alloc, words) {
-        Ok(Request::Plain(stop)) => plain(alloc, source, stop),
+        Ok(Request::Plain(asked)) => plain(alloc, source, asked),
         Ok(Request::NotBuilt) => Ok(not_built(alloc)?),
         Err(WordsError::OutOfMemory) => Err(ReadError::OutOfMemory),
         Err(error) => Ok(refuse(alloc, &error)?),
@@ -101,9 +99,9 @@ fn answer<So: Source>(alloc: Global, words: &[String], source: &mut So) -> Resul
 }
 
 // The reply to the text that a source gives.
-fn plain<So: Source>(alloc: Global, source: &mut So, stop: Option<Time>) -> Result<Reply, ReadError>
-    requires { StopsInTime stop }
-    ensures reply { IfOk result (IsReplyFrom (Ok (request.Plain stop)) (So.rest source.old)) }
+fn plain<So: Source>(alloc: Global, source: &mut So, asked: Asked) -> Result<Reply, ReadError>
+    requires { AreInRange asked }
+    ensures reply { IfOk result (IsReplyFrom (Ok (request.Plain asked)) (So.rest source.old)) }
     ensures own { IfOk result (λ reply. ¬ IsFailure reply.status) }
     ensures given { IfOk result (λ _.
         GaveFirst (MOST_BYTES + 1) (So.rest source.old) (So.rest source.new)) }
@@ -111,7 +109,7 @@ fn plain<So: Source>(alloc: Global, source: &mut So, stop: Option<Time>) -> Resu
         → Rose (So.faults source.old) (So.faults source.new) }
 {
     let text = read_text(alloc, source, MOST_BYTES + 1)?;
-    Ok(reply_to(alloc, &text, stop)?)
+    Ok(reply_to(alloc, &text, asked)?)
 }
 
 // The reply to words that ask for something that isn't built.

@@ -2,18 +2,28 @@
 
 ghost use Rattle.std.specs.Prelude.{◌≡◌, [], ◌∷◌, None, Ok, codes};
 ghost use Rattle.ooo_sim.specs.declared.request.Request.TheVariants as request;
-ghost use Rattle.ooo_sim.specs.Laws.{HasOneReading, HasOneReply, LeavesNoneOut};
+ghost use Rattle.ooo_sim.specs.Laws.{AcceptedAreReady, HasOneReading, HasOneReply, LeavesNoneOut};
 ghost use Rattle.ooo_sim.specs.Requests.{request_of};
 
-/// A text is refused, or has no stop time, or is a model's of the form that is built so far, or is none's: one of these,
-/// in one way.
+use ooo_code::Frame;
+
+/// What the front accepts may be run: its model is sound, its design is the model's, all processes and channels have
+/// names, and its own stop time is in range.
+pub fn accepted_are_ready()
+    ensures { AcceptedAreReady }
+{
+    ooo_well_formed::law::sound();
+    ooo_parts::law::stops();
+    ooo_parts::law::named();
+}
+
+/// A text is refused, or nothing stops its run, or it is a model's with the stop time of its run: one of these, in one
+/// way.
 pub fn one_reading()
     ensures one { HasOneReading }
     ensures either { LeavesNoneOut }
 {
     ooo_front::law::one_answer();
-    ooo_lexer::law::one_cutting();
-    ooo_threads::law::one_model();
 }
 
 /// Words have one reply from the bytes that they read: one status, and one text to write.
@@ -21,10 +31,13 @@ pub fn one_reply()
     ensures { HasOneReply }
 {
     one_reading();
-    ooo_threads::law::one_result();
+    accepted_are_ready();
+    ooo_shapes::law::same_runs();
+    ooo_meaning::law::one_run::<Frame>();
 }
 
-/// The one word `plain` asks for a run by the sequential scheduler, up to the model's own stop time.
+/// The one word `plain` asks for a run by the sequential scheduler, up to the model's own stop time, of at most 10,000
+/// delta cycles at one time and 1,000,000 statements in one activation.
 pub fn plain_asks_for_a_run()
-    ensures { request_of (codes "plain" ∷ []) ≡ Ok (request.Plain None) }
+    ensures { request_of (codes "plain" ∷ []) ≡ Ok (request.Plain (record { stop = None; deltas = 10_000; statements = 1_000_000 })) }
 {}

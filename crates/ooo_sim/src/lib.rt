@@ -6,7 +6,6 @@
 #![tactic(auto)]
 
 mod call;
-mod form;
 pub mod law;
 mod lines;
 mod pump;
@@ -16,5 +15,5 @@ mod status;
 
 pub use call::{alone, simulate};
 pub use reply::{MOST_BYTES, Reply};
-pub use request::Request;
+pub use request::{Asked, Request};
 pub use status::Status;

@@ -1,17 +1,26 @@
 ghost use Rattle.std.specs.Prelude.{◌≡◌, ◌≢◌, ◌≤◌, IfOk, OnOk, Ok, length};
-ghost use Rattle.ooo_threads.specs.Ready.{IsReady, StopsInTime};
+ghost use Rattle.ooo_code.specs.declared.limits.Limits.{Limits as LimitsSpec};
+ghost use Rattle.ooo_plain.specs.Cycles.{AreInRange as AreRunLimits};
 ghost use Rattle.ooo_front.specs.Layers.{IsFrontOf};
+ghost use Rattle.ooo_sim.specs.Laws.{IsReady};
 ghost use Rattle.ooo_sim.specs.Lines.{refusal_line};
-ghost use Rattle.ooo_sim.specs.Readings.{NotBuilt, Unstopped, has_stop};
-ghost use Rattle.ooo_sim.specs.Replies.{IsReplyOf, IsTextReply, Reports, reply};
+ghost use Rattle.ooo_sim.specs.Readings.{Unstopped, stop_of};
+ghost use Rattle.ooo_sim.specs.Replies.{IsReplyOf, IsTextReply, Reports, limits_of, reply, status_of};
+ghost use Rattle.ooo_sim.specs.Requests.{AreInRange};
 ghost use Rattle.ooo_sim.specs.Statuses.{IsFailure};
 ghost use Rattle.ooo_sim.specs.declared.status.Status.TheVariants as status;
 
-use crate::form::model_of;
+use crate::law::accepted_are_ready;
 use crate::lines::refusal_line;
+use crate::request::Asked;
 use crate::status::Status;
+use ooo_bound::Bound;
+use ooo_code::Limits;
+use ooo_endings::law::{endings, histories};
 use ooo_front::{Accepted, Refused, front};
-use ooo_threads::{FormError, Ready};
+use ooo_history::{End, report};
+use ooo_plain::run_plain;
+use ooo_shapes::law::{same_runs, sound_design};
 use ooo_time::Time;
 use sqlite_items::Items;
 use std::alloc::{AllocError, Global};
@@ -38,10 +47,10 @@ impl Reply {
     }
 }
 
-/// The reply of the command `plain` to a text, with a stop time in place of the text's, if one is given.
-pub(crate) fn reply_to(alloc: Global, text: &[u8], stop: Option<Time>) -> Result<Reply, AllocError>
-    requires { StopsInTime stop }
-    ensures reply { IfOk result (IsTextReply stop text.now) }
+/// The reply of the command `plain` to a text.
+pub(crate) fn reply_to(alloc: Global, text: &[u8], asked: Asked) -> Result<Reply, AllocError>
+    requires { AreInRange asked }
+    ensures reply { IfOk result (IsTextReply asked text.now) }
     ensures own { IfOk result (λ reply. ¬ IsFailure reply.status) }
 {
     if text.len() > MOST_BYTES {
@@ -49,7 +58,7 @@ pub(crate) fn reply_to(alloc: Global, text: &[u8], stop: Option<Time>) -> Result
         return Ok(Reply::new(Status::SourceTooLong, line));
     }
     match front(alloc, text) {
-        Ok(accepted) => reply_to_accepted(alloc, text, &accepted, stop),
+        Ok(accepted) => reply_to_accepted(alloc, text, &accepted, asked),
         Err(why) => refuse(alloc, &why),
     }
 }
@@ -59,29 +68,40 @@ fn reply_to_accepted(
     alloc: Global,
     text: &[u8],
     accepted: &Accepted,
-    stop: Option<Time>,
+    asked: Asked,
 ) -> Result<Reply, AllocError>
     requires short { length text.now ≤ MOST_BYTES }
     requires accepted { IsFrontOf text.now (Ok accepted.now) }
-    requires stop { StopsInTime stop }
-    ensures reply { IfOk result (IsTextReply stop text.now) }
+    requires range { AreInRange asked }
+    ensures reply { IfOk result (IsTextReply asked text.now) }
     ensures own { IfOk result (λ reply. ¬ IsFailure reply.status) }
 {
-    if !has_stop(stop, accepted) {
-        return stop_missing(alloc, stop);
-    }
-    match model_of(alloc, text) {
-        Ok(ready) => run(alloc, &ready, stop),
-        Err(FormError::NotBuilt) => not_built(alloc, stop),
-        Err(FormError::OutOfMemory) => Err(AllocError),
+    accepted_are_ready();
+    match stop_of(asked.stop, &accepted.bound) {
+        Some(stop) => run(alloc, accepted, limits_of(asked, stop)),
+        None => stop_missing(alloc, asked),
     }
 }
 
-// Whether a stop time is given, or `sc_start` has one.
-fn has_stop(stop: Option<Time>, accepted: &Accepted) -> bool
-    ensures { result ≡ has_stop stop accepted.now }
+// The stop time that is given, else the model's own.
+fn stop_of(given: Option<Time>, model: &Bound) -> Option<Time>
+    ensures { result ≡ stop_of given model.now }
 {
-    stop.is_some() || accepted.bound.stop.is_some()
+    match given {
+        Some(stop) => Some(stop),
+        None => model.stop,
+    }
+}
+
+// The limits of a run that stops at this time.
+fn limits_of(asked: Asked, stop: Time) -> Limits
+    ensures { result ≡ limits_of asked stop }
+{
+    Limits {
+        stop,
+        deltas: asked.deltas,
+        statements: asked.statements,
+    }
 }
 
 // The reply to a text that is refused.
@@ -93,26 +113,36 @@ fn refuse(alloc: Global, why: &Refused) -> Result<Reply, AllocError>
 }
 
 // The reply to a text without a stop time.
-fn stop_missing(alloc: Global, stop: Option<Time>) -> Result<Reply, AllocError>
-    ensures { IfOk result (IsReplyOf stop Unstopped) }
+fn stop_missing(alloc: Global, asked: Asked) -> Result<Reply, AllocError>
+    ensures { IfOk result (IsReplyOf asked Unstopped) }
 {
     let line = Vec::from_slice(alloc, b"refused words StopMissing\n")?;
     Ok(Reply::new(Status::WordsRefused, line))
 }
 
-// The reply to a text that is no model of the form that is built so far.
-fn not_built(alloc: Global, stop: Option<Time>) -> Result<Reply, AllocError>
-    ensures { IfOk result (IsReplyOf stop NotBuilt) }
+// The reply with the report of a model's run.
+fn run(alloc: Global, accepted: &Accepted, limits: Limits) -> Result<Reply, AllocError>
+    requires ready { IsReady accepted.now }
+    requires range { AreRunLimits limits }
+    ensures reply { IfOk result (Reports accepted.now.bound limits) }
+    ensures own { IfOk result (λ reply. ¬ IsFailure reply.status) }
 {
-    let line = Vec::from_slice(alloc, b"refused form NotBuilt\n")?;
-    Ok(Reply::new(Status::TextRefused, line))
+    sound_design();
+    same_runs();
+    histories();
+    endings();
+    let run = run_plain(alloc, &accepted.design, limits)?;
+    let text = report(alloc, &run, &accepted.bound.names)?;
+    Ok(Reply::new(status_of(run.end), text))
 }
 
-// The reply with the report of a model's run.
-fn run(alloc: Global, ready: &Ready, stop: Option<Time>) -> Result<Reply, AllocError>
-    requires ready { IsReady ready.now }
-    requires stop { StopsInTime stop }
-    ensures { IfOk result (Reports stop ready.now.model) }
+// The status that tells how a run ended.
+fn status_of(end: End) -> Status
+    ensures { result ≡ status_of end }
 {
-    Ok(Reply::new(Status::Done, ready.report(alloc, stop)?))
+    match end {
+        End::Time(_) | End::Idle(_) | End::Stop(_) => Status::Done,
+        End::Fault(..) => Status::Faulted,
+        End::Statements(..) | End::Deltas(_) => Status::LimitReached,
+    }
 }

@@ -1,18 +1,27 @@
 ghost use Rattle.std.specs.Prelude.{◌≡◌, ◌≢◌, Ok, Err, IfOk, IfErr};
-ghost use Rattle.std.specs.List.{list_any};
-ghost use Rattle.std.specs.String.{string_bytes};
 ghost use Rattle.ooo_words.specs.Limits.{IsWithinLimits};
-ghost use Rattle.ooo_sim.specs.Requests.{words_of, is_limit, request_for, request_of, AsksInTime};
+ghost use Rattle.ooo_sim.specs.Requests.{words_of, request_for, request_of, AsksInRange};
 
 use ooo_time::Time;
 use ooo_words::{Command, WordsError, read};
 use std::alloc::Global;
 
+/// What is asked of a run.
+#[derive(Clone, Copy, Debug, PartialEq, Eq)]
+pub struct Asked {
+    /// The stop time in place of the model's own, if one is given.
+    pub stop: Option<Time>,
+    /// How many delta cycles there may be at one time.
+    pub deltas: u32,
+    /// How many statements an activation may count.
+    pub statements: u32,
+}
+
 /// What the words ask for, of what is built.
 #[derive(Clone, Copy, Debug, PartialEq, Eq)]
 pub enum Request {
-    /// The report of a run by the sequential scheduler, up to this time in place of the model's, if one is given.
-    Plain(Option<Time>),
+    /// The report of a run by the sequential scheduler.
+    Plain(Asked),
     /// Something that isn't built.
     NotBuilt,
 }
@@ -26,33 +35,28 @@ pub(crate) fn read_request(alloc: Global, words: &[String]) -> Result<Request, W
     ensures ok { IfOk result (λ request. request_of (words_of words.now) ≡ Ok request) }
     ensures err { IfErr result (λ error. error ≢ WordsError.OutOfMemory
         → request_of (words_of words.now) ≡ Err error) }
-    ensures stop { IfOk result AsksInTime }
+    ensures range { IfOk result AsksInRange }
 {
     let command = read(alloc, words)?;
-    Ok(request_for(names_limit(words), command))
+    Ok(request_for(command))
 }
 
-// What a command asks for; `limited` says whether a limit is given.
-fn request_for(limited: bool, command: Command) -> Request
+// What a command asks for.
+fn request_for(command: Command) -> Request
     requires { IsWithinLimits command }
-    ensures request { request_for limited (Ok command) ≡ Ok result }
-    ensures stop { AsksInTime result }
+    ensures request { request_for (Ok command) ≡ Ok result }
+    ensures range { AsksInRange result }
 {
     match command {
-        Command::Plain { stop, .. } if !limited => Request::Plain(stop),
+        Command::Plain {
+            stop,
+            deltas,
+            statements,
+        } => Request::Plain(Asked {
+            stop,
+            deltas,
+            statements,
+        }),
         _ => Request::NotBuilt,
     }
-}
-
-// Whether a limit of delta cycles or of statements is given.
-fn names_limit(words: &[String]) -> bool
-    ensures { result ≡ list_any (λ word. is_limit (string_bytes word)) words.now }
-{
-    words.iter().any(|word| is_limit(word.as_bytes()))
-}
-
-fn is_limit(word: &[u8]) -> bool
-    ensures { result ≡ is_limit word.now }
-{
-    word.starts_with(b"--deltas") || word.starts_with(b"--statements")
 }
