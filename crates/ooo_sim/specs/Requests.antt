@@ -1,9 +1,9 @@
 -- What the words ask for, of what is built.
-use Rattle.std.specs.Prelude.{ℕ, ◌+◌, List, Result, Ok, Err, map, string_bytes, String}
+use Rattle.std.specs.Prelude.{ℕ, ◌+◌, List, None, Result, Ok, Err, map, string_bytes, String}
 use Rattle.ooo_words.specs.declared.command.Command.{Command}
 use Rattle.ooo_words.specs.declared.command.Command.TheVariants as command
 use Rattle.ooo_words.specs.declared.refused.WordsError.{WordsError}
-use Rattle.ooo_words.specs.Limits.{IsBetween, StopsInTime, most_deltas, most_statements}
+use Rattle.ooo_words.specs.Limits.{IsBetween, StopsInTime, default_deltas, default_statements, most_deltas, most_statements}
 use Rattle.ooo_words.specs.Reading.{reading}
 use Rattle.ooo_sim.specs.declared.request.Asked.{Asked}
 use Rattle.ooo_sim.specs.declared.request.Request.{Request}
@@ -30,6 +30,10 @@ abbrev pub bytes_wanted : Result Request WordsError → ℕ
 bytes_wanted (Ok (request.Plain asked)) = MOST_BYTES + 1
 bytes_wanted (Ok request.NotBuilt) = 0
 bytes_wanted (Err e) = 0
+
+-- what is asked of a run where the words say nothing of it
+abbrev pub by_default : Asked
+by_default = record { stop = None; deltas = default_deltas; statements = default_statements }
 
 -- what is asked of a run is in range
 pub record AreInRange (asked : Asked) : Type 0 where

@@ -1,9 +1,9 @@
 //! What holds of the definitions: functions that do nothing, whose clauses are laws.
 
-ghost use Rattle.std.specs.Prelude.{◌≡◌, [], ◌∷◌, None, Ok, codes};
+ghost use Rattle.std.specs.Prelude.{◌≡◌, [], ◌∷◌, Ok, codes};
 ghost use Rattle.ooo_sim.specs.declared.request.Request.TheVariants as request;
 ghost use Rattle.ooo_sim.specs.Laws.{AcceptedAreReady, HasOneReading, HasOneReply, LeavesNoneOut};
-ghost use Rattle.ooo_sim.specs.Requests.{request_of};
+ghost use Rattle.ooo_sim.specs.Requests.{by_default, request_of};
 
 use ooo_code::Frame;
 
@@ -39,5 +39,5 @@ pub fn one_reply()
 /// The one word `plain` asks for a run by the sequential scheduler, up to the model's own stop time, of at most 10,000
 /// delta cycles at one time and 1,000,000 statements in one activation.
 pub fn plain_asks_for_a_run()
-    ensures { request_of (codes "plain" ∷ []) ≡ Ok (request.Plain (record { stop = None; deltas = 10_000; statements = 1_000_000 })) }
+    ensures { request_of (codes "plain" ∷ []) ≡ Ok (request.Plain by_default) }
 {}
