@@ -1,5 +1,6 @@
 -- What a node's own steps come to, over plain variables.
-use Rattle.std.proofs.Common.{◌≡◌, ℕ, List, [], ◌∷◌, Result, Ok, Err, Some, IsErrAnd, slice_get, sym, ap, subst, ◌∙◌}
+use Rattle.std.proofs.Common.{◌≡◌, ℕ, List, [], ◌∷◌, Option, Result, Ok, Err, Some, IsErrAnd, slice_get, sym, ap, subst, ◌∙◌}
+use Rattle.std.specs.Prelude.{IfSome}
 use Rattle.ooo_value.specs.declared.operators.Fault.{Fault}
 use Rattle.ooo_value.specs.declared.values.Value.{Value}
 use Rattle.ooo_code.specs.declared.activation.Effect.{Effect}
@@ -16,7 +17,7 @@ use Rattle.ooo_code.specs.Outcomes.{Outcome}
 use Rattle.ooo_interp.specs.declared.doing.Halt.{Halt}
 use Rattle.ooo_interp.specs.declared.doing.Halt.TheVariants as halt
 use Rattle.ooo_interp.specs.declared.doing.Made.{Made}
-use Rattle.ooo_interp.specs.Acting.{Acts, GoesWith, IsHalt, Steps, doing_of}
+use Rattle.ooo_interp.specs.Acting.{Acts, ActsAs, GoesWith, IsHalt, Steps, doing_of}
 use Rattle.ooo_interp.specs.Lending.{after_put, after_slot, after_take}
 
 -- a fault halts
@@ -51,3 +52,7 @@ filled r number line to c e v s t m l result h k adds =
 -- a node does what its kind does
 pub acts_by : (r : Running) (node : Node) (k : NodeKind) (number : ℕ) (result : Result ℕ Halt) (before after : Doing) → node.kind ≡ k → Steps r node.line result after (λ next. act r k number node.line node.next next before) → Acts r node number result before after
 acts_by r node k number result before after is does = subst (λ x. Steps r node.line result after (λ next. act r x number node.line node.next next before)) (sym is) does
+
+-- a node that is done plainly does what its kind does
+pub plainly : (k is : NodeKind) (to : ℕ) (r : Option ℕ) (s t : Sight) → k ≡ is → IfSome r (λ n. (m : Made) → ActsAs is to (Ok n) (doing_of s m) (doing_of t m)) → IfSome r (λ n. (m : Made) → ActsAs k to (Ok n) (doing_of s m) (doing_of t m))
+plainly k is to r s t e does = subst (λ x. IfSome r (λ n. (m : Made) → ActsAs x to (Ok n) (doing_of s m) (doing_of t m))) (sym e) does

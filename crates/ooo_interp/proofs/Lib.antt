@@ -1,4 +1,5 @@
 pub mod Acted
+pub mod Bitwise
 pub mod Turned
 pub mod Drops
 pub mod Searched

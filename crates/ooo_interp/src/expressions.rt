@@ -4,9 +4,10 @@ ghost use Rattle.ooo_value.specs.Operators.{binary_of, inversion_of, negation_of
 ghost use Rattle.ooo_value.specs.Values.{conversion_of, number_of, truth_of};
 ghost use Rattle.ooo_value.specs.declared.values.Value.TheVariants as ValueSpec;
 
+use crate::combining::combine;
 use crate::parts::Lent;
 use ooo_code::NodeExpr;
-use ooo_value::{Fault, Kind, Op, Value, binary, convert, invert, negate, truth};
+use ooo_value::{Fault, Kind, Op, Value, convert, invert, negate, truth};
 
 /// What an expression gives. Operands are evaluated from left to right, and `&&`, `||` and `? :` leave out what isn't
 /// needed (ISO C++ [expr.log.and], [expr.log.or], [expr.cond]). It takes no memory.
@@ -110,7 +111,7 @@ fn combined<L: Lent>(lent: &L, op: Op, a: &NodeExpr, b: &NodeExpr) -> Result<Val
 {
     let left = operand(lent, a)?;
     let right = operand(lent, b)?;
-    binary(op, left, right)
+    combine(op, left, right)
 }
 
 // `&&`
@@ -158,7 +159,7 @@ fn chosen<L: Lent>(lent: &L, c: &NodeExpr, a: &NodeExpr, b: &NodeExpr) -> Result
 }
 
 // The value at a place, or 0 where there is none.
-fn value_at(values: &[Value], at: usize) -> Value
+pub(crate) fn value_at(values: &[Value], at: usize) -> Value
     ensures { result ≡ slice_index_or values.now at no_value }
 {
     if at < values.len() {

@@ -13,6 +13,7 @@
 mod acting;
 mod changes;
 mod choices;
+mod combining;
 mod counting;
 mod delays;
 mod doing;
@@ -21,7 +22,9 @@ mod fifo_port;
 mod job;
 mod job_parts;
 mod notices;
+mod numbers;
 mod parts;
+mod plainly;
 mod port;
 mod ports;
 mod printing;

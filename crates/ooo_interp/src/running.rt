@@ -7,6 +7,7 @@ use crate::acting::act;
 use crate::counting::Left;
 use crate::doing::{Activation, Halt, Made, Pause};
 use crate::parts::Lent;
+use crate::plainly::do_plainly;
 use ooo_code::{Node, SegmentEntry};
 use ooo_value::Fault;
 use sqlite_items::at;
@@ -60,7 +61,8 @@ pub fn run_nodes<'a, L: Lent>(
     }
 }
 
-// Goes on from a node by one.
+// Goes on from a node by one. What it answers is large, so it isn't handed through the stack.
+#[inline(always)]
 fn go_on<'a, L: Lent>(
     lent: &mut L,
     made: &mut Made<'a>,
@@ -94,9 +96,31 @@ fn go_on<'a, L: Lent>(
     Ok(counted)
 }
 
-// Does what a node does. What it answers is large, so it isn't handed through the stack.
+// Does what a node does, at once where that is plain.
 #[inline(always)]
 fn do_node<'a, L: Lent>(
+    lent: &mut L,
+    made: &mut Made<'a>,
+    activation: &Activation<'a>,
+    node: &'a Node,
+    number: u32,
+) -> Result<Turn<'a>, AllocError>
+    ensures does { let r = running_of activation.now in
+        let before = doing_of (L.sight lent.old) made.old in
+        let after = doing_of (L.sight lent.new) made.new in
+        IfOk result (λ t. (next : Next) → Turns r t next after
+        (act r node.now.kind number node.now.line node.now.next next before)) }
+    ensures kept { L.kept lent.new ≡ L.kept lent.old }
+{
+    if let Some(to) = do_plainly(lent, node) {
+        return Ok(Turn::Goes(to));
+    }
+    Ok(do_any(lent, made, activation, node, number)?)
+}
+
+// Does what any node does.
+#[inline(never)]
+fn do_any<'a, L: Lent>(
     lent: &mut L,
     made: &mut Made<'a>,
     activation: &Activation<'a>,
