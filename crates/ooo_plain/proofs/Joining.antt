@@ -1,11 +1,14 @@
 -- Lists of those that may wait on an event.
-use Rattle.std.proofs.Common.{◌≡◌, ◌≢◌, ℕ, ◌<◌, ◌≤◌, ◌+◌, inl, inr, arith, List, [], ◌∷◌, ◌++◌, refl, sym, subst, ap, ◌∙◌, get_or, map, set, length, take, ⊎_elim}
+use Rattle.std.proofs.Common.{◌≡◌, ◌≢◌, ℕ, ◌<◌, ◌≤◌, ◌+◌, ◌==◌, true, inl, inr, arith, List, [], ◌∷◌, ◌++◌, refl, sym, subst, ap, ◌∙◌, get_or, map, set, length, take, ⊎_elim, eq-eqb}
 use Rattle.std.proofs.lemmas.List.{length-set, length-map, take_more, take_all, get_or-set_same, get_or-set_other}
 use Rattle.std.proofs.lemmas.List.Elements.{All-append, All-cons, All-nil, Contains-append_left, Contains-append_right, Contains-append_cases}
 use Rattle.std.proofs.lemmas.Bool.{cases_eq}
+use Rattle.std.proofs.lemmas.List.Folds.{list_any_at}
 use Rattle.std.specs.Prelude.{All, Contains}
+use Rattle.std.specs.List.{list_any}
+use Rattle.ooo_plain.specs.declared.schedule.Held.{Held}
 use Rattle.ooo_plain.specs.declared.schedule.Schedule.{Schedule}
-use Rattle.ooo_plain.specs.Schedule.{Joined, waiting_on}
+use Rattle.ooo_plain.specs.Schedule.{Joined, waiting_on, KnowsWaiters, held_at, waits_on}
 use Rattle.ooo_plain.proofs.Asking.{only}
 
 here : (y : ℕ) → Contains (y ∷ []) y
@@ -38,6 +41,15 @@ joined_none old e p h = record {
   count = refl;
   kept = λ i q k. k;
   added = λ i k. subst (λ x. Contains (waiting_on old x) p) (sym (only e i k)) h;
+  within = λ n below k. k;
+}
+
+pub joined_same : (old : Schedule) (p : ℕ) (h : Held) (es : List ℕ) → KnowsWaiters old → held_at old.held.items p ≡ h → h.events ≡ es → Joined p es old old
+joined_same old p h es knows is same = record {
+  rest = refl;
+  count = refl;
+  kept = λ i q k. k;
+  added = λ i k. knows.all p i (ap (waits_on i) is ∙ ap (list_any (λ x. x == i)) same ∙ list_any_at (λ x. x == i) es k.0 i k.1 (eq-eqb _ i k.2));
   within = λ n below k. k;
 }
 

@@ -1,4 +1,4 @@
-ghost use Rattle.std.specs.Prelude.{◌≡◌, ◌<◌, None, OnOk, IfOk, replicate, IfSome, IfNone, length, slice_set};
+ghost use Rattle.std.specs.Prelude.{◌≡◌, ◌<◌, None, OnOk, IfOk, replicate, IfSome, IfNone, length, slice_set, IsTrue};
 ghost use Rattle.ooo_meaning.specs.World.{least};
 ghost use Rattle.ooo_plain.specs.Agenda.{due_in, AllFrom, Takes, TakesNone};
 
@@ -65,6 +65,17 @@ impl Agenda {
         requires { p < length self.old }
         ensures { OnOk result (self.new ≡ slice_set self.old p due) }
     {
+        if is_same(self.due(p), due) {
+            return Ok(());
+        }
+        self.renew(p, due)
+    }
+
+    // Sets when a process is due, whenever it was before.
+    fn renew(&mut self, p: usize, due: Option<Stamp>) -> Result<(), AllocError>
+        requires { p < length self.old }
+        ensures { OnOk result (self.new ≡ slice_set self.old p due) }
+    {
         self.clear(p);
         if let Some(stamp) = due {
             self.queue.insert(Due { stamp, process: p })?;
@@ -104,4 +115,11 @@ impl Agenda {
     {
         Some(self.queue.first()?.stamp)
     }
+}
+
+// Whether two processes are due at the same stamp, or both are not.
+fn is_same(a: Option<Stamp>, b: Option<Stamp>) -> bool
+    ensures { IsTrue result → a ≡ b }
+{
+    a == b
 }

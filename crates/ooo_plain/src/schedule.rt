@@ -69,10 +69,23 @@ impl Schedule {
         ensures { OnOk result (Waits p held bank.now now self.old self.new) }
     {
         let due = earliest(bank, now, &held);
-        self.join_all(p, &held.events)?;
+        self.join_anew(p, &held.events)?;
         self.held[p] = held;
         self.agenda.set(p, due)?;
         Ok(())
+    }
+
+    // A process stands among those that may wait on these events, as it does already where it waited on the same last.
+    fn join_anew(&mut self, p: usize, events: &Items<u32>) -> Result<(), AllocError>
+        requires process { p < length self.old.held.items }
+        requires knows { KnowsWaiters self.old }
+        requires within { All (λ e. e < length self.old.waiters.items) events.now }
+        ensures { OnOk result (Joined p events.now self.old self.new) }
+    {
+        if are_same(&self.held[p].events, events) {
+            return Ok(());
+        }
+        self.join_all(p, events)
     }
 
     // A process stands among those that may wait on these events.
@@ -173,6 +186,13 @@ fn empty_lists(alloc: Global, count: usize) -> Result<Vec<Vec<usize>>, AllocErro
         lists.push(Vec::new(alloc))?;
     }
     Ok(lists)
+}
+
+// Whether two lists have the same events.
+fn are_same(a: &Items<u32>, b: &Items<u32>) -> bool
+    ensures { IsTrue result → a.now ≡ b.now }
+{
+    a.as_slice() == b.as_slice()
 }
 
 // Whether a process stands in a list.
