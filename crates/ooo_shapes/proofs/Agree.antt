@@ -51,15 +51,11 @@ use Rattle.ooo_shapes.proofs.Steps.{PlaceAt, FuelAt, Here, statements, nodes, pa
 use Rattle.ooo_shapes.proofs.Simples.{counts, moved}
 use Rattle.ooo_shapes.proofs.Calls.{leave_same}
 use Rattle.ooo_shapes.proofs.Acts.{simple_first, simple_same}
-use Rattle.ooo_shapes.proofs.Returns.{return_kept, return_set}
+use Rattle.ooo_shapes.proofs.Returns.{no_result, return_kept, return_set}
 
 -- the test that a loop without one has gives true
 true_is : (t : Around) (s : over_slots.Sight) → gives (lowered t (bound.Constant (value.Bool true))) s ≡ Ok (value.Bool true)
 true_is t s = lowered_constant t (value.Bool true) s
-
-no_result : (r : Option Kind) (so_far : Value) → result_of r None so_far ≡ so_far
-no_result None so_far = refl
-no_result (Some k) so_far = refl
 
 return_none : (t : Around) (e : BoundExpr) → t.result ≡ None → return_kind t (Some e) ≡ kind.Test (lowered t e) t.return_to
 return_none t e is = ap (λ (r : Option Kind). elim r [ None ↦ kind.Test (lowered t e) t.return_to | Some k ↦ kind.Set t.result_slot (converted k (lowered t e)) ]) is

@@ -26,3 +26,12 @@ pub mod Rooms
 pub mod Sturdy
 pub mod Ranks
 pub mod Soundness
+pub mod Trees
+pub mod Touched
+pub mod Blocks
+pub mod Doing
+pub mod Segments
+pub mod Blanks
+pub mod Pausing
+pub mod Evaluating
+pub mod Depending

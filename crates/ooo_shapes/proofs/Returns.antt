@@ -1,5 +1,5 @@
 -- Where a `return` goes: to the end of the function, with its value in the result's slot.
-use Rattle.std.proofs.Common.{◌≡◌, ℕ, ◌+◌, ◌<◌, List, [], ◌∷◌, length, Option, Some, None, sym, ap, ◌∙◌, subst, arith}
+use Rattle.std.proofs.Common.{◌≡◌, ℕ, ◌+◌, ◌<◌, List, [], ◌∷◌, length, Option, Some, None, refl, sym, ap, ◌∙◌, subst, arith}
 use Rattle.std.specs.Prelude.{slice_set}
 use Rattle.std.proofs.lemmas.List.{get_or-set_same, get_or-set_other}
 use Rattle.ooo_value.specs.declared.kinds.Kind.{Kind}
@@ -17,6 +17,11 @@ use Rattle.ooo_shapes.specs.Expressions.{slot_of}
 use Rattle.ooo_shapes.specs.Shapes.{result_kinds}
 use Rattle.ooo_shapes.proofs.Frames.{Frame, Keeps, keeps_set, keeps_frame}
 use Rattle.ooo_shapes.proofs.Places.{Holds, LeaveAt, Place, Stands, stands, place_keeps}
+
+-- a `return` without a value leaves the result as it is
+pub no_result : (r : Option Kind) (so_far : Value) → result_of r None so_far ≡ so_far
+no_result None so_far = refl
+no_result (Some k) so_far = refl
 
 module _ (b : Bound) (process : BoundProcess) (total : ℕ) (code : List Node) where
   abbrev Standing : List Item → Locals → List Value → ℕ → Type 0

@@ -242,9 +242,9 @@ module _ (b : Bound) (sound : IsSound b) (p : ℕ) (process : BoundProcess) (is 
 -- ---- one touch
 
 -- the test of a touch: it passes, and nothing else does
-record IsTestOf (test : Touch → Bool) (touch : Touch) : Type 0 where
-  passes : test touch ≡ true
-  only : (t : Touch) → test t ≡ true → t ≡ touch
+pub record IsTestOf (test : Touch → Bool) (touch : Touch) : Type 0 where
+  pub passes : test touch ≡ true
+  pub only : (t : Touch) → test t ≡ true → t ≡ touch
 
 abbrev writes_signal : ℕ → Touch → Bool
 writes_signal c touch = elim touch [ WritesSignal d ↦ c == d | _ ↦ false ]
@@ -271,14 +271,14 @@ test_writing : (c : ℕ) → IsTestOf (holds_writing c) (HoldsWriting c)
 test_writing c = record { passes = eq-eqb c c refl; only = writing_only c }
 
 module _ (test : Touch → Bool) (touch : Touch) (is_test : IsTestOf test touch) where
-  some_touch : (xs : List Touch) → Contains xs touch → list_any test xs ≡ true
+  pub some_touch : (xs : List Touch) → Contains xs touch → list_any test xs ≡ true
   some_touch xs c = list_any_at test xs c.0 touch c.1 (ap test c.2 ∙ is_test.passes)
 
   touch_first : (x : Touch) (xs : List Touch) (t : Bool) → test x ≡ t → (t || list_any test xs) ≡ true → (list_any test xs ≡ true → Contains xs touch) → Contains (x ∷ xs) touch
   touch_first x xs true e h rest = (0, omega arith, is_test.only x e)
   touch_first x xs false e h rest = let c = rest h in (suc c.0, omega (arith, c.1), c.2)
 
-  touch_in : (xs : List Touch) → list_any test xs ≡ true → Contains xs touch
+  pub touch_in : (xs : List Touch) → list_any test xs ≡ true → Contains xs touch
   touch_in [] h = absurd (false≢true h)
   touch_in (x ∷ xs) h = touch_first x xs (test x) refl h (touch_in xs)
 
@@ -286,16 +286,16 @@ module _ (test : Touch → Bool) (touch : Touch) (is_test : IsTestOf test touch)
 
 module _ (b : Bound) (sound : IsSound b) where
   -- process p of the design
-  record ProcOf (p : ℕ) (a : Proc) : Type 0 where
-    process : BoundProcess
-    is : slice_get b.processes p ≡ Some process
-    same : a ≡ process_at b process (first_from b 0 b.processes p)
+  pub record ProcOf (p : ℕ) (a : Proc) : Type 0 where
+    pub process : BoundProcess
+    pub is : slice_get b.processes p ≡ Some process
+    pub same : a ≡ process_at b process (first_from b 0 b.processes p)
 
   proc_in : (p : ℕ) (a : Proc) (o : Option BoundProcess) → slice_get b.processes p ≡ o → option_map (λ x. process_at b x (first_from b 0 b.processes p)) o ≡ Some a → ProcOf p a
   proc_in p a None e h = let f : false ≡ true = ap is_some h in absurd (false≢true f)
   proc_in p a (Some process) e h = record { process = process; is = e; same = cc }
 
-  proc_of : (p : ℕ) (a : Proc) → slice_get (processes_from b 0 b.processes) p ≡ Some a → ProcOf p a
+  pub proc_of : (p : ℕ) (a : Proc) → slice_get (processes_from b 0 b.processes) p ≡ Some a → ProcOf p a
   proc_of p a e = proc_in p a (slice_get b.processes p) refl (sym (processes_at b 0 b.processes p) ∙ e)
 
   design_process : (p : ℕ) (a : Proc) → slice_get (processes_from b 0 b.processes) p ≡ Some a → FitsProcess (design_of b) a

@@ -81,7 +81,7 @@ module _ (b : Bound) (process : BoundProcess) (p : ℕ) (is : slice_get b.proces
   abbrev pub end_of : ℕ
   end_of = first + (process_shape b process).size
 
-  total_is : slots_of b process ≡ first_base + count_of (process_widths process) + length (process_shape b process).slots
+  pub total_is : slots_of b process ≡ first_base + count_of (process_widths process) + length (process_shape b process).slots
   total_is =
       omega (
         arith,

@@ -44,7 +44,7 @@ pub or_false : (a : Bool) → (a || false) ≡ a
 or_false true = refl
 or_false false = refl
 
-or_assoc : (a b c : Bool) → (a || (b || c)) ≡ (a || b || c)
+pub or_assoc : (a b c : Bool) → (a || (b || c)) ≡ (a || b || c)
 or_assoc true b c = refl
 or_assoc false b c = refl
 
@@ -194,7 +194,7 @@ module _ (h : Home) (test : Touch → Bool) where
   written c = some (notified_next (numbers_where (is_data_written c) 0 events))
 
   -- a put of a slot
-  put_slot : (c : ℕ) → kind_some (kind.Put c (node.Slot (channel_slot h c))) ≡ (test (HoldsWriting c) || written c)
+  pub put_slot : (c : ℕ) → kind_some (kind.Put c (node.Slot (channel_slot h c))) ≡ (test (HoldsWriting c) || written c)
   put_slot c =
       ap (λ x. test (HoldsWriting c) || x) (both_some (reads (node.Slot (channel_slot h c))) (notified_next (numbers_where (is_data_written c) 0 events)) ∙ ap (λ x. x || written c) (slot_none c))
 
@@ -205,7 +205,7 @@ module _ (h : Home) (test : Touch → Bool) where
       ∙ read_bool (test (HoldsReading c)) n (into_some into)
       ∙ sym (both_some (text.take_touches events c) (text.target_touches events into))
 
-  set_some : (t : Around) (c : ℕ) (e : BoundExpr) → some (reads (converted (channel_kind h.model c) (lowered t e))) ≡ some (text.reads_of e)
+  pub set_some : (t : Around) (c : ℕ) (e : BoundExpr) → some (reads (converted (channel_kind h.model c) (lowered t e))) ≡ some (text.reads_of e)
   set_some t c e = ap some (converted_reads (channel_kind h.model c) (lowered t e) ∙ reads_same t e)
 
   write_some : (t : Around) (c : ℕ) (e : BoundExpr) (line at next : ℕ) → nodes_some (write_nodes h t c e line at next) ≡ some (text.reads_of e ++ text.put_touches events c)
@@ -294,11 +294,11 @@ module _ (h : Home) (test : Touch → Bool) where
 
   -- ---- calls
 
-  zeros_some : (line slot : ℕ) (ks : List Kind) (at : ℕ) → nodes_some (zero_nodes line slot ks at) ≡ false
+  pub zeros_some : (line slot : ℕ) (ks : List Kind) (at : ℕ) → nodes_some (zero_nodes line slot ks at) ≡ false
   zeros_some line slot [] at = refl
   zeros_some line slot (k ∷ ks) at = ap₂ (λ xs b. some xs || b) (reads_Constant (value_of k (pos 0))) (zeros_some line (slot + 1) ks (at + 1))
 
-  arguments_some : (t u : Around) (line n : ℕ) (ks : List Kind) (es : List BoundExpr) (at : ℕ) → nodes_some (argument_nodes t u line n ks es at) ≡ some (text.arguments_read ks es)
+  pub arguments_some : (t u : Around) (line n : ℕ) (ks : List Kind) (es : List BoundExpr) (at : ℕ) → nodes_some (argument_nodes t u line n ks es at) ≡ some (text.arguments_read ks es)
   arguments_some t u line n [] [] at = refl
   arguments_some t u line n [] (e ∷ es) at = refl
   arguments_some t u line n (k ∷ ks) [] at = refl
@@ -310,12 +310,24 @@ module _ (h : Home) (test : Touch → Bool) where
   result_reads None free = reads_Constant no_value
   result_reads (Some k) free = reads_Slot free
 
-  leave_some : (t : Around) (into : BoundTarget) (k : Option Kind) (free next : ℕ) → kind_some (leave_kind h t into k free next) ≡ into_some into
+  pub leave_some : (t : Around) (into : BoundTarget) (k : Option Kind) (free next : ℕ) → kind_some (leave_kind h t into k free next) ≡ into_some into
   leave_some t target.Nothing k free next = refl
   leave_some t (target.Local j n) k free next = put_none t (target.Local j n) (result_expr k free) next (result_reads k free)
   leave_some t (target.Variable x) k free next = put_none t (target.Variable x) (result_expr k free) next (result_reads k free)
   leave_some t (target.Element x i) k free next = put_none t (target.Element x i) (result_expr k free) next (result_reads k free)
   leave_some t (target.Signal c) k free next = put_none t (target.Signal c) (result_expr k free) next (result_reads k free)
+
+  -- ---- returns
+
+  returned_some : (t : Around) (e : BoundExpr) (o : Option Kind) → kind_some (elim o [ None ↦ kind.Test (lowered t e) t.return_to | Some k ↦ kind.Set t.result_slot (converted k (lowered t e)) ]) ≡ some (text.reads_of e)
+  returned_some t e None = ap some (reads_same t e)
+  returned_some t e (Some k) = ap some (converted_reads k (lowered t e) ∙ reads_same t e)
+
+  pub return_some : (t : Around) (e : Option BoundExpr) → kind_some (return_kind t e) ≡ some (text.option_reads e)
+  return_some t None = refl
+  return_some t (Some e) = returned_some t e t.result
+
+  -- ---- statements in what is laid out
 
   -- wherever a shape is laid out, its nodes touch so
   abbrev pub Gives : Shape → Bool → Type 0
@@ -327,7 +339,7 @@ module _ (h : Home) (test : Touch → Bool) where
       ∙ ap₂ (λ a b. a || b) (gx t free at (begins y.size (at + x.size) next)) (gy t (free + length x.slots) (at + x.size) next)
       ∙ sym (both_some xs ys)
 
-  abbrev called : ℕ → text.Callees
+  abbrev pub called : ℕ → text.Callees
   called depth = text.callees_within depth events functions
 
   -- a call of a function whose body touches so
@@ -352,14 +364,14 @@ module _ (h : Home) (test : Touch → Bool) where
       ∙ sym (both_some (text.arguments_read f.params args ++ touched) (text.target_touches events into))
 
   -- what a call at a depth touches
-  abbrev CallGives : ℕ → Type 0
+  abbrev pub CallGives : ℕ → Type 0
   CallGives depth = (line : ℕ) (into : BoundTarget) (args : List BoundExpr) (g : ℕ) → CallFound functions depth g → Gives (call_shape h line into args (callees_within depth h g)) (some (text.call_touches (called depth g) args ++ text.target_touches events into))
 
   module _ (depth : ℕ) (calls : CallGives depth) where
     abbrev Found : List LinedSimple → Type 0
     Found ss = SimplesFound (CallFound functions depth) ss
 
-    simple_gives : (line : ℕ) (x : BoundSimple) → SimpleFound (CallFound functions depth) x → Gives (simple_shape h (callees_within depth h) line x) (some (text.simple_touches events (called depth) x))
+    pub simple_gives : (line : ℕ) (x : BoundSimple) → SimpleFound (CallFound functions depth) x → Gives (simple_shape h (callees_within depth h) line x) (some (text.simple_touches events (called depth) x))
     simple_gives line (simple.Assign into (right.Value e)) f t free at next =
         or_false (kind_some (put_kind h t into (lowered t e) next))
         ∙ put_some t into (lowered t e) next
@@ -466,14 +478,6 @@ module _ (h : Home) (test : Touch → Bool) where
         ∙ ap (λ b. some xs || b) (or_false (some (text.reads_of e)))
         ∙ sym (both_some xs (text.reads_of e))
 
-    returned_some : (t : Around) (e : BoundExpr) (o : Option Kind) → kind_some (elim o [ None ↦ kind.Test (lowered t e) t.return_to | Some k ↦ kind.Set t.result_slot (converted k (lowered t e)) ]) ≡ some (text.reads_of e)
-    returned_some t e None = ap some (reads_same t e)
-    returned_some t e (Some k) = ap some (converted_reads k (lowered t e) ∙ reads_same t e)
-
-    return_some : (t : Around) (e : Option BoundExpr) → kind_some (return_kind t e) ≡ some (text.option_reads e)
-    return_some t None = refl
-    return_some t (Some e) = returned_some t e t.result
-
     choice_gives : (line : ℕ) (e : BoundExpr) (x : Shown) (y : Option Shown) → P (roll-BoundStat (map-BoundStat Shown BoundStat stat_in (layer.If line e x y)))
     choice_gives line e x None =
         by_layer (layer.If line e x.0 None) (λ f. if_gives line e (shape x.0) empty (touches x.0) [] (x.1 (found_left (CallFound functions depth) (simples_of x.0) [] f)) (λ t free at next. refl))
@@ -519,7 +523,7 @@ module _ (h : Home) (test : Touch → Bool) where
   call_found k calls line into args (Some g) f t free at next =
       call_gives line into args g (body_shape h (callees_within k h) g.body) (text.body_touches events (called k) g.body) (body_gives k calls g.body f) t free at next
 
-  calls_give : (depth : ℕ) → CallGives depth
+  pub calls_give : (depth : ℕ) → CallGives depth
   calls_give zero line into args g f t free at next = absurd f
   calls_give (suc k) line into args g f t free at next = call_found k (calls_give k) line into args (slice_get functions g) f t free at next
 

@@ -4,3 +4,4 @@ pub mod Simples
 pub mod Shapes
 pub mod Designs
 pub mod Sizes
+pub mod Segments

@@ -29,7 +29,8 @@ use Rattle.ooo_shapes.specs.Expressions.{converted, lowered, lowered_wait_time}
 use Rattle.ooo_shapes.specs.Simples.{Home, counted, uncounted, put_kind, put_at_kind, aim_kind, channel_slot, truth, read_nodes, nb_read_nodes, nb_write_nodes, current_expr, update_nodes, begins, item_kind, item_nodes}
 use Rattle.ooo_shapes.specs.Shapes.{Shape, empty, then, all_shapes, zero_nodes, argument_nodes, inside_call, result_expr, leave_kind, call_kinds, call_shape, simple_shape, lined_shape, lined_shapes, if_shape, inside, test_or_true, lead_slots, lead_size, lead_nodes, again_at, loop_shape, do_shape, return_kind, after_shape, shape_step, shape_of, body_shape, callee_by, callees_within}
 use Rattle.ooo_shapes.specs.Designs.{home_of, process_nodes, process_shape, around_process, process_widths, free_of}
-use Rattle.ooo_waits.specs.Waits.{Waiting, Callees, after_waits, all_waits, body_waits, constant_time, fixed_time, function_waits, kind_waits, process_waits, simple_waits, simples_waits, stat_waits, until, waits_of, waits_step, waits_within}
+use Rattle.ooo_shapes.specs.Segments.{fixed_time, constant_time}
+use Rattle.ooo_waits.specs.Waits.{Waiting, Callees, after_waits, all_waits, body_waits, function_waits, kind_waits, process_waits, simple_waits, simples_waits, stat_waits, until, waits_of, waits_step, waits_within}
 
 -- waits of nodes one after the other
 both : (xs ys : List Node) → waits_of (xs ++ ys) ≡ waits_of xs ++ waits_of ys

@@ -4,10 +4,6 @@ use Rattle.ooo_time.specs.declared.time.Time.{Time}
 use Rattle.ooo_code.specs.declared.node.Node.{Node}
 use Rattle.ooo_code.specs.declared.node.NodeKind.{NodeKind}
 use Rattle.ooo_code.specs.declared.node.NodeKind.TheVariants as kind
-use Rattle.ooo_code.specs.declared.node.NodeTime.{NodeTime}
-use Rattle.ooo_code.specs.declared.node.NodeTime.TheVariants as node_time
-use Rattle.ooo_bound.specs.declared.expr.BoundTime.{BoundTime}
-use Rattle.ooo_bound.specs.declared.expr.BoundTime.TheVariants as time
 use Rattle.ooo_bound.specs.declared.model.Bound.{Bound}
 use Rattle.ooo_bound.specs.declared.model.BoundFunction.{BoundFunction}
 use Rattle.ooo_bound.specs.declared.model.BoundProcess.{BoundProcess}
@@ -20,6 +16,7 @@ use Rattle.ooo_bound.specs.declared.stat.BoundStat.TheOpen as stat
 use Rattle.ooo_bound.specs.declared.stat.LinedSimple.{LinedSimple}
 use Rattle.ooo_activation.specs.Activations.{data_written, data_read}
 use Rattle.ooo_shapes.specs.Designs.{home_of}
+use Rattle.ooo_shapes.specs.Segments.{fixed_time, constant_time}
 use Rattle.ooo_shapes.specs.Simples.{Home}
 
 -- a wait: the line of its statement, its time where that is constant, and its events
@@ -29,10 +26,6 @@ pub record Waiting : Type 0 where
   pub events : List ℕ
 
 -- ---- nodes
-
-abbrev pub fixed_time : Option NodeTime → Option Time
-fixed_time (Some (node_time.Fixed t)) = Some t
-fixed_time _ = None
 
 -- the wait of a node on a line, if it is one
 abbrev pub kind_waits : NodeKind → (line : ℕ) → List Waiting
@@ -45,10 +38,6 @@ waits_of [] = []
 waits_of (i ∷ is) = kind_waits i.kind i.line ++ waits_of is
 
 -- ---- statements
-
-abbrev pub constant_time : Option BoundTime → Option Time
-constant_time (Some (time.Fixed t)) = Some t
-constant_time _ = None
 
 -- a blocking statement of a fifo waits for an event, for as long as it takes (IEEE 1666-2011, 6.23)
 abbrev pub until : (line : ℕ) → List ℕ → List Waiting
