@@ -4,7 +4,8 @@
 //! after one of its waits, without passing a wait), ascending, process by process, each process's start first and then its
 //! waits in order of their nodes; and exactly the edges of the definition, ascending, each with its delay. It answers
 //! `TooManySegments` exactly where a design has more than [`Graph::GREATEST_SEGMENTS`]. Else only memory can run out.
-//! [`graph_of_closed`] gives the same, and asks for less than a sound design.
+//! [`graph_of_closed`] gives the same, and asks for less than a sound design. [`segment_count`] counts the segments, and
+//! makes none of them.
 //!
 //! A design's nodes are gone through once for each segment.
 #![tactic(auto)]
@@ -19,6 +20,7 @@ mod searching;
 mod segments;
 mod waits;
 
+pub use counting::segment_count;
 pub use error::GraphError;
 pub use graphs::{Edge, Graph};
 pub use making::{graph, graph_of_closed};

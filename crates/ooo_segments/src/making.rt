@@ -4,7 +4,7 @@ ghost use Rattle.ooo_segments.specs.Beginnings.{beginnings, greatest_segments, A
 ghost use Rattle.ooo_segments.specs.Closed.{AreClosed};
 ghost use Rattle.ooo_segments.specs.Edges.{AreEdges, IsLink};
 
-use crate::counting::has_too_many;
+use crate::counting::count_of_closed;
 use crate::edges::all_edges;
 use crate::error::GraphError;
 use crate::graphs::Graph;
@@ -50,7 +50,7 @@ pub fn graph_of_closed(alloc: Global, design: &Design) -> Result<Graph, GraphErr
     ensures few { IfOk result (λ g. length g.segments ≤ greatest_segments) }
     ensures links { IfOk result (λ g. All (IsLink (length g.segments)) g.edges) }
 {
-    if has_too_many(design) {
+    if count_of_closed(design).is_none() {
         return Err(GraphError::TooManySegments);
     }
     let segments = all_segments(alloc, design)?;
