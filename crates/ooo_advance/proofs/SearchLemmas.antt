@@ -25,7 +25,7 @@ use Rattle.ooo_advance.proofs.TurnLemmas.{turn, settled}
 
 -- what was found among the segments below n
 pub record NearestSoFar (row : List (Option Delay)) (done : List Bool) (n : ℕ) (best : Option (ℕ × Delay)) : Type 0 where
-  pub found : (x : ℕ × Delay) → best ≡ Some x → (IsIn done x.0 → ⊥) × (delay_at row x.0 ≡ Some x.1)
+  pub found : (x : ℕ × Delay) → best ≡ Some x → (IsIn done x.0 → ⊥) × (delay_at row x.0 ≡ Some x.1) × (x.0 < n)
   pub near : (v : ℕ) (k : Delay) → v < n → (IsIn done v → ⊥) → delay_at row v ≡ Some k → IsNearBy best k
 
 pub near_none : (row : List (Option Delay)) (done : List Bool) → NearestSoFar row done 0 None
@@ -54,10 +54,11 @@ nearer_by found d k h le = record { has = h.has; is = h.is; at_most = at_most_tr
 pub near_more : (row : List (Option Delay)) (done : List Bool) (n : ℕ) (best next : Option (ℕ × Delay)) → NearestSoFar row done n best → IsNearer best n (delay_at row n) (get_or done n false) next → NearestSoFar row done (n + 1) next
 near_more row done n best next h nearer = record {
   found = λ x e. elim (nearer.one_of x e) [
-    | inl old ↦ h.found x old
+    | inl old ↦ let f = h.found x old in let lt = f.2 in (f.0, f.1, omega arith)
     | inr new ↦ (
       subst (λ v. IsIn done v → ⊥) (sym new.1) (not_in done n new.0),
       subst (λ v. delay_at row v ≡ Some x.1) (sym new.1) new.2,
+      let e = new.1 in omega arith,
     )
   ];
   near = λ v k below out at. elim (cases_lt v n) [
@@ -69,6 +70,30 @@ near_more row done n best next h nearer = record {
         nearer.than_this k (unset_from done n (subst (λ w. IsIn done w → ⊥) e out)) (subst (λ w. delay_at row w ≡ Some k) e at)
   ];
 }
+
+-- a segment that is done
+pub near_done : (row : List (Option Delay)) (done : List Bool) (n : ℕ) (best : Option (ℕ × Delay)) → NearestSoFar row done n best → get_or done n false ≡ true → NearestSoFar row done (n + 1) best
+near_done row done n best h set = record {
+  found = λ x e. let f = h.found x e in let lt = f.2 in (f.0, f.1, omega arith);
+  near = λ v k below out at. elim (cases_lt v n) [
+    | inl lower ↦ h.near v k lower out at
+    | inr same ↦ let e : n ≡ v = omega arith in absurd (out (subst (λ m. IsIn done m) e (is_in done n set)))
+  ];
+}
+
+-- what is known of segment n doesn't matter for those below it
+near_set : (row : List (Option Delay)) (done : List Bool) (n : ℕ) (r : Option Delay) (best : Option (ℕ × Delay)) → NearestSoFar row done n best → NearestSoFar (slice_set row n r) done n best
+near_set row done n r best h = record {
+  found = λ x e. let f = h.found x e in let lt = f.2 in (f.0, get_or-set_other row n x.0 r None (λ e. omega arith) ∙ f.1, lt);
+  near = λ v k below out at. h.near v k below out (sym (get_or-set_other row n v r None (λ e. omega arith)) ∙ at);
+}
+
+-- a segment more, of which something else is known now
+pub near_lowered : (row : List (Option Delay)) (done : List Bool) (n : ℕ) (r : Option Delay) (best next : Option (ℕ × Delay)) → n < length row → NearestSoFar row done n best → get_or done n false ≡ false → IsNearer best n r false next → NearestSoFar (slice_set row n r) done (n + 1) next
+near_lowered row done n r best next lt h unset nearer =
+    near_more (slice_set row n r) done n best next (near_set row done n r best h)
+    (subst (λ d. IsNearer best n d (get_or done n false) next) (sym (get_or-set_same row n r None lt))
+    (subst (λ b. IsNearer best n r b next) (sym unset) nearer))
 
 near_cases : (row : List (Option Delay)) (done : List Bool) (best : Option (ℕ × Delay)) → NearestSoFar row done (length row) best → MatchOption best (HasNone row done (length row)) (λ x. IsNearest row done x.0 x.1 × (x.0 < length row))
 near_cases row done None h = λ v k lt out is. let n = h.near v k lt out is in let e = n.is in absurd cc

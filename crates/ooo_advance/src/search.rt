@@ -15,7 +15,7 @@ use sqlite_items::Items;
 use std::alloc::{AllocError, Global};
 
 // The least sums of the walks from a segment to each. In each turn the nearest segment that isn't done yet is done, and the
-// edges from it lower what is known of the others.
+// edges from it lower what is known of the others, among which the next one is found.
 pub(crate) fn least_from(
     alloc: Global,
     links: &[Items<Option<Delay>>],
@@ -33,9 +33,10 @@ pub(crate) fn least_from(
     let mut least = vec![in alloc; None; links.len()]?;
     let mut done = vec![in alloc; false; links.len()]?;
     least[source as usize] = Some(Delay::NONE);
-    'turns: while let Some((n, delay)) = nearest(&least, &done) {
+    let mut next = nearest(&least, &done);
+    'turns: while let Some((n, delay)) = next {
         done[n] = true;
-        relax(&mut least, &done, links[n].as_slice(), delay);
+        next = relax(&mut least, &done, links[n].as_slice(), delay);
     }
     Ok(Items::from_vec(least))
 }
@@ -70,20 +71,32 @@ fn nearer(
     }
 }
 
-// Lowers what is known of those that aren't done to what comes by an edge from a segment of this delay.
-fn relax(least: &mut [Option<Delay>], done: &[bool], links: &[Option<Delay>], delay: Delay)
+// Lowers what is known of those that aren't done to what comes by an edge from a segment of this delay, and gives the
+// nearest of them then, with its delay.
+fn relax(
+    least: &mut [Option<Delay>],
+    done: &[bool],
+    links: &[Option<Delay>],
+    delay: Delay,
+) -> Option<(usize, Delay)>
     requires done { length done.now ≡ length least.old }
     requires links { length links.now ≡ length least.old }
     requires time { delay.time.0 ≤ greatest_time }
     requires deltas { All (λ link. IfSome link (λ k. delay.deltas + k.deltas ≤ greatest_deltas))
         links.now }
-    ensures { IsLowered done.now least.old least.new links.now delay }
+    ensures lowered { IsLowered done.now least.old least.new links.now delay }
+    ensures nearest { MatchOption result (HasNone least.new done.now (length least.new))
+        (λ x. IsNearest least.new done.now x.0 x.1 × (x.0 < length least.new)) }
 {
+    let mut best = None;
     for n in 0..least.len() {
         if !done[n] {
-            least[n] = lowered(least[n], links[n], delay);
+            let low = lowered(least[n], links[n], delay);
+            least[n] = low;
+            best = nearer(best, n, low, false);
         }
     }
+    best
 }
 
 // What is known of a segment, lowered to what comes by a link after this delay, within the greatest time.

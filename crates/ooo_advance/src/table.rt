@@ -41,6 +41,7 @@ impl AdvanceTable {
         requires links { All (IsLink (length access.now)) graph.now.edges }
         requires in_order { All IsInOrder access.now }
         ensures exact { IfOk result (IsTable graph.now access.now) }
+        ensures rows { IfOk result (All (λ row. length row ≡ length access.now)) }
         ensures addable { IfOk result (λ rows. All AreAddable rows) }
     {
         let links = links_of(alloc, graph, access)?;

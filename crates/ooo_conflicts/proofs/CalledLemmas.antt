@@ -41,7 +41,7 @@ called_is events a empty first both own all owned none f g n h m = record { all 
       λ w. (m.same e).1 ((h e).1 ((calls e).1 w.0, w.1)),
     )
 
-at_push : {A : Type 0} (xs : List A) (x y : A) (k : ℕ) → slice_get (xs ++ x ∷ []) k ≡ Some y → (slice_get xs k ≡ Some y) ⊎ ((k ≡ length xs) × (x ≡ y))
+pub at_push : {A : Type 0} (xs : List A) (x y : A) (k : ℕ) → slice_get (xs ++ x ∷ []) k ≡ Some y → (slice_get xs k ≡ Some y) ⊎ ((k ≡ length xs) × (x ≡ y))
 at_push [] x y zero h = inr (refl, cc)
 at_push [] x y (suc k) h = absurd cc
 at_push (z ∷ zs) x y zero h = inl h
@@ -171,6 +171,10 @@ rows_end events access i rows e h = record {
       let n = h.count in
       (h.each b x (get_or rows b []) p (slice_get-get_or rows b [] (omega arith))).kinds g y q;
 }
+
+-- each row has an entry for each access
+pub rows_wide : (events : List BoundEvent) (access : List Access) (i : ℕ) (rows : List (List ClashKind)) → RowsSoFar events access i rows → All (λ row. length row ≡ length access) rows
+rows_wide events access i rows h = λ k d lt. h.long k (get_or rows k d) (slice_get-get_or rows k d lt)
 
 pub rows_long : (events : List BoundEvent) (access : List Access) (i : ℕ) (rows : List (List ClashKind)) → i ≡ length access → RowsSoFar events access i rows → All (λ row. length row ≡ length rows) rows
 rows_long events access i rows e h = λ k d lt. h.long k (get_or rows k d) (slice_get-get_or rows k d lt) ∙ sym (h.count ∙ e)

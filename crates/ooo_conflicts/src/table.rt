@@ -39,6 +39,7 @@ impl ClashTable {
         requires { All IsInOrder access.now }
         ensures count { IfOk result (λ t. length t ≡ length access.now) }
         ensures exact { IfOk result (IsTable design.now.events access.now) }
+        ensures rows { IfOk result (All (λ row. length row ≡ length access.now)) }
     {
         let called = all_called(alloc, design.events.as_slice(), access)?;
         let called = called.as_slice();

@@ -35,6 +35,9 @@ returns-clause-exact c =
     let end : c.loop-source.source ≡ length c.args.access.now = let a = c.loop-source-test.false in let b = c.loop-source.auto.source-end in omega arith in
     rows_end _ _ _ _ end c.loop-source.invariant
 
+pub returns-clause-rows : goal.returns-clause-rows
+returns-clause-rows c = c.loop-source.invariant.long
+
 pub invariant_of-result : goal.invariant_of-result
 invariant_of-result c =
     let end : c.loop-source.source ≡ length c.args.access.now = let a = c.loop-source-test.false in let b = c.loop-source.auto.source-end in omega arith in

@@ -5,7 +5,7 @@ use Rattle.std.proofs.lemmas.Option.{slice_get-get_or}
 use Rattle.ooo_access.specs.Access.{IsInOrder}
 use Rattle.ooo_conflicts.specs.Kinds.{AreListed, AllCalled}
 use Rattle.ooo_conflicts.proofs.SetLemmas.{read_is, read_all}
-use Rattle.ooo_conflicts.proofs.CalledLemmas.{rows_none, rows_more, rows_end, rows_long, all_listed}
+use Rattle.ooo_conflicts.proofs.CalledLemmas.{rows_none, rows_more, rows_end, rows_long, rows_wide, all_listed}
 use Rattle.ooo_conflicts.proofs.table.ClashTable.make.Goals as goal
 
 pub loop-b-init : goal.loop-b-init
@@ -38,6 +38,9 @@ pub returns-clause-exact : goal.returns-clause-exact
 returns-clause-exact c =
     let end : c.loop-b.b ≡ length c.args.access.now = let a = c.loop-b-test.false in let b = c.loop-b.auto.b-end in omega arith in
     rows_end _ _ _ _ end c.loop-b.invariant
+
+pub returns-clause-rows : goal.returns-clause-rows
+returns-clause-rows c = rows_wide _ _ _ _ c.loop-b.invariant
 
 pub invariant_of-result : goal.invariant_of-result
 invariant_of-result c =
