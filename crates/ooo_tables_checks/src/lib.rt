@@ -1,4 +1,5 @@
-//! Tests of the tables of whole designs: of `ooo_segments`, `ooo_access`, `ooo_conflicts` and `ooo_advance` together.
+//! Tests of the tables of whole designs: of `ooo_segments`, `ooo_access`, `ooo_conflicts` and `ooo_advance` together, and
+//! of the text that `ooo_tables` writes of them.
 #![tactic(auto)]
 
 #[cfg(test)]
@@ -13,3 +14,5 @@ mod sketch;
 mod tables;
 #[cfg(test)]
 mod texts;
+#[cfg(test)]
+mod written;

@@ -97,11 +97,21 @@ pub(crate) fn thread(first: u32, end: u32) -> Part {
     }
 }
 
-/// The design that is drawn up.
+/// The design that is drawn up, with each node on line 1.
 pub(crate) fn design_of(alloc: Global, sketch: Sketch) -> Result<Design, AllocError> {
+    design_on_lines(alloc, sketch, &[])
+}
+
+/// The design that is drawn up, with each node on its line, or on line 1 where none is told.
+pub(crate) fn design_on_lines(
+    alloc: Global,
+    sketch: Sketch,
+    lines: &[u32],
+) -> Result<Design, AllocError> {
     let mut nodes = Items::new(alloc);
-    for step in sketch.nodes {
-        nodes.push(node_of(alloc, *step)?)?;
+    for (n, step) in sketch.nodes.iter().enumerate() {
+        let line = lines.get(n).copied().unwrap_or(1);
+        nodes.push(node_of(alloc, *step, line)?)?;
     }
     let mut processes = Items::new(alloc);
     for part in sketch.processes {
@@ -127,7 +137,7 @@ fn process_of(alloc: Global, part: Part) -> Result<Proc, AllocError> {
     })
 }
 
-fn node_of(alloc: Global, step: Step) -> Result<Node, AllocError> {
+fn node_of(alloc: Global, step: Step, line: u32) -> Result<Node, AllocError> {
     let (kind, next) = match step {
         Step::Test(next, other) => (NodeKind::Test(NodeExpr::Variable(0), other), next),
         Step::Goto(next) => (NodeKind::Goto, next),
@@ -141,7 +151,7 @@ fn node_of(alloc: Global, step: Step) -> Result<Node, AllocError> {
     };
     Ok(Node {
         kind,
-        line: 1,
+        line,
         counts: true,
         next,
     })
