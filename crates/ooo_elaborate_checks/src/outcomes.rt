@@ -41,6 +41,7 @@ fn refusal_line(alloc: Global, why: &Refused) -> Result<Vec<u8>, AllocError> {
         Refused::Types(_, place) => at(alloc, "types", *place),
         Refused::Elaborate(refusal) => refused(alloc, refusal),
         Refused::CodeTooLarge => Vec::from_slice(alloc, b"CodeTooLarge"),
+        Refused::TooManySegments => Vec::from_slice(alloc, b"TooManySegments"),
         Refused::OutOfMemory => Err(AllocError),
     }
 }

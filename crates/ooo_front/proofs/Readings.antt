@@ -1,6 +1,6 @@
 -- A text has one answer. The laws of the layers are premises.
-use Rattle.std.proofs.Common.{◌≡◌, ◌⊎◌, inl, inr, ◌∙◌, arith, ℕ, List, [], refl, sym, ap, subst, ⊎_elim}
-use Rattle.std.specs.Prelude.{Result, Ok, Err}
+use Rattle.std.proofs.Common.{◌≡◌, ◌≤◌, ◌⊎◌, inl, inr, ◌∙◌, arith, ℕ, List, [], refl, sym, ap, subst, ⊎_elim}
+use Rattle.std.specs.Prelude.{Result, Ok, Err, length}
 use Rattle.std.proofs.lemmas.Bool.{cases_lt}
 use Rattle.ooo_lexer.specs.Breaches.{HasBreach}
 use Rattle.ooo_lexer.specs.Laws.{IsCutOneWay, HasOneBreach, HasNoCutting, IsCutOrBroken}
@@ -21,10 +21,11 @@ use Rattle.ooo_walk.specs.declared.refusal.Refusal.{Refusal}
 use Rattle.ooo_front.specs.declared.answer.Accepted.{Accepted}
 use Rattle.ooo_front.specs.declared.answer.Refused.{Refused}
 use Rattle.ooo_front.specs.declared.answer.Refused.TheVariants as refused
+use Rattle.ooo_segments.specs.Beginnings.{beginnings, greatest_segments}
 use Rattle.ooo_shapes.specs.Designs.{design_of}
 use Rattle.ooo_shapes.specs.Sizes.{code_size}
 use Rattle.ooo_lower.specs.declared.designs.TheConstants.{GREATEST_SIZE}
-use Rattle.ooo_front.specs.Layers.{IsAccepted, IsElaborated, IsFrontOf, IsMisspelled, IsMistyped, IsSpelled, IsTooLarge, elaborated, text_symbols}
+use Rattle.ooo_front.specs.Layers.{IsAccepted, IsElaborated, IsFrontOf, IsMisspelled, IsMistyped, IsSpelled, IsTooLarge, IsTooMany, elaborated, text_symbols}
 use Rattle.ooo_front.specs.Laws.{HasAnswer, HasOneAnswer}
 
 -- what is accepted, of its two parts
@@ -77,6 +78,20 @@ module _ (cut : IsCutOneWay) (uncut : HasNoCutting) (answer : OneAnswer) (typed 
       let size : code_size a.bound ≡ code_size s.bound = ap code_size models in
       omega (arith, size, r.lowered.within, s.large)
 
+  -- its design has too many segments, or it hasn't
+  few_or_many : (text : List ℕ) (a : Accepted) → IsAccepted text a → IsTooMany text → ⊥
+  few_or_many text a r s =
+      let models : a.bound ≡ s.bound = one_bound text a.bound s.bound r.elaborated s.elaborated in
+      let designs : a.design ≡ design_of s.bound = r.lowered.design ∙ ap design_of models in
+      let count : length (beginnings a.design) ≡ length (beginnings (design_of s.bound)) = ap (λ d. length (beginnings d)) designs in
+      omega (arith, count, r.few, s.many)
+
+  -- its segments are counted only where its code isn't too large
+  large_or_many : (text : List ℕ) → IsTooLarge text → IsTooMany text → ⊥
+  large_or_many text r s =
+      let size : code_size r.bound ≡ code_size s.bound = ap code_size (one_bound text r.bound s.bound r.elaborated s.elaborated) in
+      omega (arith, size, r.large, s.within)
+
   one_reason : (text : List ℕ) (a b : Refusal) → IsElaborated text (Err a) → IsElaborated text (Err b) → a ≡ b
   one_reason text a b r s = same (Err a) (Err b) refl refl (one_end text r s) where
     same : (x y : Result Bound Refusal) → x ≡ Err a → y ≡ Err b → x ≡ y → a ≡ b
@@ -116,6 +131,7 @@ module _ (cut : IsCutOneWay) (uncut : HasNoCutting) (answer : OneAnswer) (typed 
     one_answer text (Ok a) (Err (refused.Types c there)) r s = absurd (wrong_or_right text s r.elaborated.spelled r.elaborated.right)
     one_answer text (Ok a) (Err (refused.Elaborate why)) r s = absurd (not_both text r.elaborated s)
     one_answer text (Ok a) (Err refused.CodeTooLarge) r s = absurd (fits_or_not text a r s)
+    one_answer text (Ok a) (Err refused.TooManySegments) r s = absurd (few_or_many text a r s)
     one_answer text (Ok a) (Err refused.OutOfMemory) r s = absurd s
     one_answer text (Err (refused.Lexer b at)) (Ok c) r s = absurd (uncut_spelled text r s.elaborated.spelled)
     one_answer text (Err (refused.Lexer b at)) (Err (refused.Lexer c there)) r s = ap Err (one_break text b c at there r s)
@@ -123,6 +139,7 @@ module _ (cut : IsCutOneWay) (uncut : HasNoCutting) (answer : OneAnswer) (typed 
     one_answer text (Err (refused.Lexer b at)) (Err (refused.Types c there)) r s = absurd (uncut_spelled text r s.spelled)
     one_answer text (Err (refused.Lexer b at)) (Err (refused.Elaborate why)) r s = absurd (uncut_spelled text r s.spelled)
     one_answer text (Err (refused.Lexer b at)) (Err refused.CodeTooLarge) r s = absurd (uncut_spelled text r s.elaborated.spelled)
+    one_answer text (Err (refused.Lexer b at)) (Err refused.TooManySegments) r s = absurd (uncut_spelled text r s.elaborated.spelled)
     one_answer text (Err (refused.Lexer b at)) (Err refused.OutOfMemory) r s = absurd s
     one_answer text (Err (refused.Parser b at)) (Ok c) r s = absurd (apart text r s.elaborated.spelled)
     one_answer text (Err (refused.Parser b at)) (Err (refused.Lexer c there)) r s = absurd (uncut text c there r.pieces s r.cut)
@@ -130,6 +147,7 @@ module _ (cut : IsCutOneWay) (uncut : HasNoCutting) (answer : OneAnswer) (typed 
     one_answer text (Err (refused.Parser b at)) (Err (refused.Types c there)) r s = absurd (apart text r s.spelled)
     one_answer text (Err (refused.Parser b at)) (Err (refused.Elaborate why)) r s = absurd (apart text r s.spelled)
     one_answer text (Err (refused.Parser b at)) (Err refused.CodeTooLarge) r s = absurd (apart text r s.elaborated.spelled)
+    one_answer text (Err (refused.Parser b at)) (Err refused.TooManySegments) r s = absurd (apart text r s.elaborated.spelled)
     one_answer text (Err (refused.Parser b at)) (Err refused.OutOfMemory) r s = absurd s
     one_answer text (Err (refused.Types b at)) (Ok c) r s = absurd (wrong_or_right text r s.elaborated.spelled s.elaborated.right)
     one_answer text (Err (refused.Types b at)) (Err (refused.Lexer c there)) r s = absurd (uncut_spelled text s r.spelled)
@@ -137,6 +155,7 @@ module _ (cut : IsCutOneWay) (uncut : HasNoCutting) (answer : OneAnswer) (typed 
     one_answer text (Err (refused.Types b at)) (Err (refused.Types c there)) r s = ap Err (one_mistyping text b c at there r s)
     one_answer text (Err (refused.Types b at)) (Err (refused.Elaborate why)) r s = absurd (wrong_or_right text r s.spelled s.right)
     one_answer text (Err (refused.Types b at)) (Err refused.CodeTooLarge) r s = absurd (wrong_or_right text r s.elaborated.spelled s.elaborated.right)
+    one_answer text (Err (refused.Types b at)) (Err refused.TooManySegments) r s = absurd (wrong_or_right text r s.elaborated.spelled s.elaborated.right)
     one_answer text (Err (refused.Types b at)) (Err refused.OutOfMemory) r s = absurd s
     one_answer text (Err (refused.Elaborate why)) (Ok c) r s = absurd (not_both text s.elaborated r)
     one_answer text (Err (refused.Elaborate why)) (Err (refused.Lexer c there)) r s = absurd (uncut_spelled text s r.spelled)
@@ -144,6 +163,7 @@ module _ (cut : IsCutOneWay) (uncut : HasNoCutting) (answer : OneAnswer) (typed 
     one_answer text (Err (refused.Elaborate why)) (Err (refused.Types c there)) r s = absurd (wrong_or_right text s r.spelled r.right)
     one_answer text (Err (refused.Elaborate why)) (Err (refused.Elaborate c)) r s = ap (λ (x : Refusal). Err (refused.Elaborate x)) (one_reason text why c r s)
     one_answer text (Err (refused.Elaborate why)) (Err refused.CodeTooLarge) r s = absurd (not_both text s.elaborated r)
+    one_answer text (Err (refused.Elaborate why)) (Err refused.TooManySegments) r s = absurd (not_both text s.elaborated r)
     one_answer text (Err (refused.Elaborate why)) (Err refused.OutOfMemory) r s = absurd s
     one_answer text (Err refused.CodeTooLarge) (Ok c) r s = absurd (fits_or_not text c s r)
     one_answer text (Err refused.CodeTooLarge) (Err (refused.Lexer c there)) r s = absurd (uncut_spelled text s r.elaborated.spelled)
@@ -151,15 +171,32 @@ module _ (cut : IsCutOneWay) (uncut : HasNoCutting) (answer : OneAnswer) (typed 
     one_answer text (Err refused.CodeTooLarge) (Err (refused.Types c there)) r s = absurd (wrong_or_right text s r.elaborated.spelled r.elaborated.right)
     one_answer text (Err refused.CodeTooLarge) (Err (refused.Elaborate why)) r s = absurd (not_both text r.elaborated s)
     one_answer text (Err refused.CodeTooLarge) (Err refused.CodeTooLarge) r s = refl
+    one_answer text (Err refused.CodeTooLarge) (Err refused.TooManySegments) r s = absurd (large_or_many text r s)
     one_answer text (Err refused.CodeTooLarge) (Err refused.OutOfMemory) r s = absurd s
+    one_answer text (Err refused.TooManySegments) (Ok c) r s = absurd (few_or_many text c s r)
+    one_answer text (Err refused.TooManySegments) (Err (refused.Lexer c there)) r s = absurd (uncut_spelled text s r.elaborated.spelled)
+    one_answer text (Err refused.TooManySegments) (Err (refused.Parser c there)) r s = absurd (apart text s r.elaborated.spelled)
+    one_answer text (Err refused.TooManySegments) (Err (refused.Types c there)) r s = absurd (wrong_or_right text s r.elaborated.spelled r.elaborated.right)
+    one_answer text (Err refused.TooManySegments) (Err (refused.Elaborate why)) r s = absurd (not_both text r.elaborated s)
+    one_answer text (Err refused.TooManySegments) (Err refused.CodeTooLarge) r s = absurd (large_or_many text s r)
+    one_answer text (Err refused.TooManySegments) (Err refused.TooManySegments) r s = refl
+    one_answer text (Err refused.TooManySegments) (Err refused.OutOfMemory) r s = absurd s
     one_answer text (Err refused.OutOfMemory) b r s = absurd r
 
--- a bound model has a design, or its code is too large
+-- a design has too many segments, or it hasn't
+counted_answer : (text : List ℕ) (b : Bound) → IsElaborated text (Ok b) → code_size b ≤ GREATEST_SIZE → (a : Result Accepted Refused) × IsFrontOf text a
+counted_answer text b is fits =
+    ⊎_elim
+    (λ many. (Err refused.TooManySegments, record { bound = b; elaborated = is; within = fits; many = many }))
+    (λ few. (Ok (accepted_of b (design_of b)), record { elaborated = is; lowered = record { design = refl; within = fits }; few = few }))
+    (cases_lt greatest_segments (length (beginnings (design_of b))))
+
+-- the code of a bound model is too large, or it has a design
 lowered_answer : (text : List ℕ) (b : Bound) → IsElaborated text (Ok b) → (a : Result Accepted Refused) × IsFrontOf text a
 lowered_answer text b is =
     ⊎_elim
     (λ large. (Err refused.CodeTooLarge, record { bound = b; elaborated = is; large = large }))
-    (λ fits. (Ok (record { bound = b; design = design_of b }), record { elaborated = is; lowered = record { design = refl; within = fits } }))
+    (λ fits. counted_answer text b is fits)
     (cases_lt GREATEST_SIZE (code_size b))
 
 -- a text whose names and types are right can't be elaborated, or has a bound model

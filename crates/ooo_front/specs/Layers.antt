@@ -1,5 +1,5 @@
 -- What the front answers to a text, layer by layer.
-use Rattle.std.specs.Prelude.{◌≡◌, ℕ, ◌<◌, ◌≤◌, List, [], Result, Ok, Err}
+use Rattle.std.specs.Prelude.{◌≡◌, ℕ, ◌<◌, ◌≤◌, List, [], length, Result, Ok, Err}
 use Rattle.ooo_lexer.specs.Breaches.{HasBreach}
 use Rattle.ooo_lexer.specs.Pieces.{Piece, Cuts}
 use Rattle.ooo_lexer.specs.Positions.{position_of_end, tokens_after}
@@ -16,6 +16,8 @@ use Rattle.ooo_types.specs.Units.{unit_of}
 use Rattle.ooo_bound.specs.declared.model.Bound.{Bound}
 use Rattle.ooo_walk.specs.declared.refusal.Refusal.{Refusal}
 use Rattle.ooo_elaborate.specs.Elaborated.{bound_of}
+use Rattle.ooo_code.specs.declared.design.Design.{Design}
+use Rattle.ooo_segments.specs.Beginnings.{beginnings, greatest_segments}
 use Rattle.ooo_shapes.specs.Designs.{design_of}
 use Rattle.ooo_shapes.specs.Sizes.{code_size}
 use Rattle.ooo_lower.specs.declared.designs.TheConstants.{GREATEST_SIZE}
@@ -61,16 +63,31 @@ pub record IsLowered (accepted : Accepted) : Type 0 where
   pub design : accepted.design ≡ design_of accepted.bound
   pub within : code_size accepted.bound ≤ GREATEST_SIZE
 
--- the text has this bound model, and its design
+-- a design has no more segments than it may have, or it has more
+abbrev pub HasFew : Design → Type 0
+HasFew design = length (beginnings design) ≤ greatest_segments
+
+abbrev pub HasMany : Design → Type 0
+HasMany design = greatest_segments < length (beginnings design)
+
+-- the text has this bound model, and its design, with no more segments than it may have
 pub record IsAccepted (text : List ℕ) (accepted : Accepted) : Type 0 where
   pub elaborated : IsElaborated text (Ok accepted.bound)
   pub lowered : IsLowered accepted
+  pub few : HasFew accepted.design
 
 -- the text has a bound model, whose code is too large
 pub record IsTooLarge (text : List ℕ) : Type 0 where
   pub bound : Bound
   pub elaborated : IsElaborated text (Ok bound)
   pub large : GREATEST_SIZE < code_size bound
+
+-- the text has a bound model, whose code isn't too large, but whose design has too many segments
+pub record IsTooMany (text : List ℕ) : Type 0 where
+  pub bound : Bound
+  pub elaborated : IsElaborated text (Ok bound)
+  pub within : code_size bound ≤ GREATEST_SIZE
+  pub many : HasMany (design_of bound)
 
 -- the front's answer to a text: the first layer that refuses it answers, and it is accepted where none does; no text is refused for want of memory
 abbrev pub IsFrontOf : List ℕ → Result Accepted Refused → Type 0
@@ -80,6 +97,7 @@ IsFrontOf text (Err (refused.Parser breach at)) = IsMisspelled text breach at
 IsFrontOf text (Err (refused.Types breach at)) = IsMistyped text breach at
 IsFrontOf text (Err (refused.Elaborate why)) = IsElaborated text (Err why)
 IsFrontOf text (Err refused.CodeTooLarge) = IsTooLarge text
+IsFrontOf text (Err refused.TooManySegments) = IsTooMany text
 IsFrontOf text (Err refused.OutOfMemory) = ⊥
 
 -- an answer to a text: the front's, or memory ran out

@@ -24,7 +24,7 @@ use Rattle.ooo_lower.specs.declared.designs.TheConstants.{GREATEST_SIZE}
 use Rattle.ooo_front.specs.declared.answer.Accepted.{Accepted}
 use Rattle.ooo_front.specs.declared.answer.Refused.{Refused}
 use Rattle.ooo_front.specs.declared.answer.Refused.TheVariants as refused
-use Rattle.ooo_front.specs.Layers.{IsLowered, elaborated}
+use Rattle.ooo_front.specs.Layers.{IsElaborated, IsFrontOf, IsLowered, elaborated}
 
 -- ---- what a layer's error is to the front
 
@@ -87,3 +87,15 @@ IsTokenAnswer text tokens (Err (refused.Parser breach at)) =
     AreRefused whole_text (symbols_in text tokens) (position_of_end text) breach at
 IsTokenAnswer text tokens (Err refused.OutOfMemory) = Unit {0}
 IsTokenAnswer text tokens answer = IsAnsweredAsTree text tokens answer
+
+-- what a text is lowered to, before its segments are counted
+pub record IsLoweredFrom (text : List ℕ) (accepted : Accepted) : Type 0 where
+  pub elaborated : IsElaborated text (Ok accepted.bound)
+  pub lowered : IsLowered accepted
+
+-- an answer to a text, before its segments are counted
+abbrev pub IsTextAnswer : List ℕ → Result Accepted Refused → Type 0
+IsTextAnswer text (Ok accepted) = IsLoweredFrom text accepted
+IsTextAnswer text (Err refused.TooManySegments) = ⊥
+IsTextAnswer text (Err refused.OutOfMemory) = Unit {0}
+IsTextAnswer text answer = IsFrontOf text answer

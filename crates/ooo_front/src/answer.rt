@@ -6,7 +6,8 @@ use ooo_lower::LowerError;
 use ooo_syntax::{ParseBreach, ParseError};
 use ooo_walk::{ElabError, Refusal};
 
-/// What a text is accepted as, that no layer refuses.
+/// What a text is accepted as, that no layer refuses. Its design has no more than
+/// [`Graph::GREATEST_SEGMENTS`](ooo_segments::Graph::GREATEST_SEGMENTS) segments.
 #[derive(Debug, Drop)]
 pub struct Accepted {
     /// Its bound model.
@@ -28,6 +29,8 @@ pub enum Refused {
     Elaborate(Refusal),
     /// The code of the text's model is larger than code may be.
     CodeTooLarge,
+    /// The design of the text's model has more segments than a design may have.
+    TooManySegments,
     /// Memory ran out, which says nothing of the text.
     OutOfMemory,
 }

@@ -1,11 +1,11 @@
-ghost use Rattle.std.specs.Prelude.{◌≤◌, length, All, IfOk, Ok};
+ghost use Rattle.std.specs.Prelude.{◌≡◌, ◌≤◌, length, All, IfOk, IfErr, OnErr, Ok};
 ghost use Rattle.ooo_activation.specs.Sound.{IsSound as IsSoundModel};
 ghost use Rattle.ooo_code.specs.Sound.{IsSound};
 ghost use Rattle.ooo_lexer.specs.Spans.{AreInOrder, IsWithin};
 ghost use Rattle.ooo_lexer.specs.declared.position.TheConstants.{MOST_BYTES};
 ghost use Rattle.ooo_elaborate.specs.Elaborated.{IsAnswerTo as IsElaboration};
-ghost use Rattle.ooo_front.specs.Layers.{IsAnswerTo, elaborated};
-ghost use Rattle.ooo_front.specs.Steps.{IsModelAnswer, IsTokenAnswer, IsTreeAnswer};
+ghost use Rattle.ooo_front.specs.Layers.{HasFew, HasMany, IsAnswerTo, elaborated};
+ghost use Rattle.ooo_front.specs.Steps.{IsModelAnswer, IsTextAnswer, IsTokenAnswer, IsTreeAnswer};
 
 use crate::answer::{Accepted, Refused};
 use ooo_bound::Bound;
@@ -13,12 +13,13 @@ use ooo_elaborate::elaborate;
 use ooo_lexer::{Token, lex};
 use ooo_lower::lower;
 use ooo_parser::parse;
+use ooo_segments::segment_count;
 use ooo_syntax::Unit;
 use ooo_types::{Checked, check};
 use ooo_walk::ElabError;
 use std::alloc::Global;
 
-/// Goes with a text through lexer, parser, types, elaboration and lowering.
+/// Goes with a text through lexer, parser, types, elaboration and lowering, and counts the segments of its design.
 ///
 /// # Errors
 ///
@@ -29,10 +30,37 @@ pub fn front(alloc: Global, source: &[u8]) -> Result<Accepted, Refused>
     ensures model { IfOk result (λ accepted. IsSoundModel accepted.bound) }
     ensures design { IfOk result (λ accepted. IsSound accepted.design) }
 {
+    match lowered(alloc, source) {
+        Ok(accepted) => counted(accepted),
+        Err(why) => Err(why),
+    }
+}
+
+// A text through lexer, parser, types, elaboration and lowering.
+fn lowered(alloc: Global, source: &[u8]) -> Result<Accepted, Refused>
+    requires { length source.now ≤ MOST_BYTES }
+    ensures answer { IsTextAnswer source.now result }
+    ensures model { IfOk result (λ accepted. IsSoundModel accepted.bound) }
+    ensures design { IfOk result (λ accepted. IsSound accepted.design) }
+{
     ooo_well_formed::law::sound();
     ooo_shapes::law::sound_design();
     let tokens = lex(alloc, source)?;
     front_of_tokens(alloc, source, &tokens)
+}
+
+// What a text is lowered to, where its design has no more segments than it may have.
+fn counted(accepted: Accepted) -> Result<Accepted, Refused>
+    requires { IsSound accepted.design }
+    ensures same { IfOk result (λ a. a ≡ accepted) }
+    ensures few { IfOk result (λ a. HasFew a.design) }
+    ensures many { IfErr result (λ why. why ≡ Refused.TooManySegments) }
+    ensures cause { OnErr result (HasMany accepted.design) }
+{
+    match segment_count(&accepted.design) {
+        Some(_) => Ok(accepted),
+        None => Err(Refused::TooManySegments),
+    }
 }
 
 // The tokens of a text, through parser, types, elaboration and lowering.

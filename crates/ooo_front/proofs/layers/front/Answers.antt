@@ -1,17 +1,19 @@
-use Rattle.std.proofs.Common.{subst}
-use Rattle.ooo_front.specs.Steps.{IsTokenAnswer}
-use Rattle.ooo_front.proofs.Answers.{design_sound, model_sound, text_answered}
+-- What is lowered is counted, and a refusal stands.
+use Rattle.ooo_activation.specs.Sound.{IsSound as IsSoundModel}
+use Rattle.ooo_code.specs.Sound.{IsSound}
+use Rattle.ooo_front.proofs.Answers.{count_answered, kept, refusal_stands}
 use Rattle.ooo_front.proofs.layers.front.Goals as goal
 
-pub returns-clause-answer : goal.returns-clause-answer
-returns-clause-answer c =
-    text_answered c.args.source.now c.in_ok-tokens.tokens.items c.front_of_tokens.result c.in_ok-tokens.ensures.tokens
-    (subst (λ ts. IsTokenAnswer c.args.source.now ts c.front_of_tokens.result) c.deref.ensures.value c.front_of_tokens.ensures)
+pub returns-in-Ok-clause-answer : goal.returns-in-Ok-clause-answer
+returns-in-Ok-clause-answer c =
+    count_answered c.args.source.now c.in-Ok.accepted c.counted.result c.in-Ok.ensures.answer c.counted.ensures.same c.counted.ensures.few
+    c.counted.ensures.many c.counted.ensures.cause
 
-pub returns-clause-model : goal.returns-clause-model
-returns-clause-model c =
-    model_sound c.sound.ensures c.args.source.now c.front_of_tokens.result (returns-clause-answer c)
+pub returns-in-Ok-clause-model : goal.returns-in-Ok-clause-model
+returns-in-Ok-clause-model c = kept (λ x. IsSoundModel x.bound) c.in-Ok.accepted c.counted.result c.in-Ok.ensures.model c.counted.ensures.same
 
-pub returns-clause-design : goal.returns-clause-design
-returns-clause-design c =
-    design_sound c.sound_design.ensures c.args.source.now c.front_of_tokens.result (returns-clause-answer c) (returns-clause-model c)
+pub returns-in-Ok-clause-design : goal.returns-in-Ok-clause-design
+returns-in-Ok-clause-design c = kept (λ x. IsSound x.design) c.in-Ok.accepted c.counted.result c.in-Ok.ensures.design c.counted.ensures.same
+
+pub returns-in-Err-clause-answer : goal.returns-in-Err-clause-answer
+returns-in-Err-clause-answer c = refusal_stands c.args.source.now c.in-Err.why c.in-Err.ensures.answer
