@@ -159,6 +159,18 @@ fn a_source_may_have_1048576_bytes(rt: HostRuntime) -> Result<(), Fail> {
     Ok(())
 }
 
+// Worked by hand: the first thread waits once, and nothing of one thread touches what the other does.
+#[test]
+fn check_and_tables_answer(rt: HostRuntime) -> Result<(), Fail> {
+    let outcome = call(rt.alloc(), "check", model(rt.alloc())?, PLENTY)?;
+    assert!(rt; outcome.is(Status::Done, b"accepted processes 2 segments 3\n"));
+    let outcome = call(rt.alloc(), "tables", model(rt.alloc())?, PLENTY)?;
+    let tables = b"segment 0 m.a start\nsegment 1 m.a 3\nsegment 2 m.b start\n\
+        least 0 0 0 s 0\nleast 0 1 10 ns 0\nleast 1 1 0 s 0\nleast 2 2 0 s 0\n";
+    assert!(rt; outcome.is(Status::Done, tables));
+    Ok(())
+}
+
 #[test]
 fn other_words_are_refused(rt: HostRuntime) -> Result<(), Fail> {
     let rows: [(&str, &[u8]); 4] = [

@@ -1,6 +1,6 @@
 use ooo_messages::{
     code_reason, elab_breach, elab_reason, lexer_breach, lexer_reason, parser_breach,
-    parser_reason, stop_reason, types_breach, types_reason, words_reason,
+    parser_reason, segments_reason, stop_reason, types_breach, types_reason, words_reason,
 };
 use ooo_sim::{MOST_BYTES, Status};
 use ooo_words::{Command, WordsError, read};
@@ -9,9 +9,18 @@ use std::alloc::Global;
 // The line that refuses words where no time stops the run.
 const STOP_MISSING: &[u8] = b"refused words StopMissing\n";
 
+// The line that refuses a text whose model has too many segments.
+const TOO_MANY_SEGMENTS: &[u8] = b"refused segments TooManySegments\n";
+
+// The commands that read a model.
+const READING: [&str; 3] = ["plain", "check", "tables"];
+
 /// Says that a model is read from the terminal, where the words may ask for that.
 pub fn remark_terminal(rt: &impl Eprint, words: &[String]) {
-    if words.first().is_some_and(|word| word.as_str() == "plain") {
+    if words
+        .first()
+        .is_some_and(|word| READING.contains(&word.as_str()))
+    {
         say(
             rt,
             "reading a model from standard input, up to its end (Ctrl-D)",
@@ -80,7 +89,7 @@ fn say_refused(rt: &impl Eprint, reason: &str) {
 }
 
 // A refusal's line is `refused LAYER NAME LINE:COLUMN`, with names behind it where elaboration refuses, or
-// `refused lower CodeTooLarge`.
+// `refused lower CodeTooLarge`, or `refused segments TooManySegments`.
 fn remark_text(rt: &impl Eprint, line: &[u8]) {
     match str::from_utf8(line).ok().and_then(refusal_in) {
         Some((reason, line, column)) => {
@@ -89,7 +98,11 @@ fn remark_text(rt: &impl Eprint, line: &[u8]) {
             );
         }
         None => {
-            let reason = code_reason();
+            let reason = if line == TOO_MANY_SEGMENTS {
+                segments_reason()
+            } else {
+                code_reason()
+            };
             let _ = eprintln!(rt; "peljouk: the text is refused: {reason}");
         }
     }
@@ -133,4 +146,6 @@ fn say_use(rt: &impl Eprint) {
     let _ = eprintln!(rt;
         "usage: peljouk plain [--stop TIME] [--deltas N] [--statements N] <model.cpp"
     );
+    let _ = eprintln!(rt; "       peljouk check <model.cpp");
+    let _ = eprintln!(rt; "       peljouk tables <model.cpp");
 }

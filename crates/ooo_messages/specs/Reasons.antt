@@ -33,6 +33,10 @@ stop_reason = codes "neither --stop nor the text's sc_start says when the run en
 abbrev pub code_reason : List ℕ
 code_reason = codes "the code of its processes is too large, where that of each function counts anew for each call"
 
+-- why a model's design can't be used
+abbrev pub segments_reason : List ℕ
+segments_reason = codes "its processes have more than 1024 segments: one from each start, and one from each wait on"
+
 -- what is wrong with a text that can't be cut
 abbrev pub lexer_reason : LexBreach → List ℕ
 lexer_reason lexer.BadByte = codes "this byte begins no token and no escape"

@@ -1,6 +1,6 @@
 ghost use Rattle.std.specs.Prelude.{◌≡◌};
 ghost use Rattle.ooo_messages.specs.Reasons.{breach_named, lexer_reason, parse_breach_named, parser_reason, type_breach_named};
-ghost use Rattle.ooo_messages.specs.Reasons.{code_reason, elab_breach_named, elab_reason, stop_reason, types_reason, words_reason};
+ghost use Rattle.ooo_messages.specs.Reasons.{code_reason, elab_breach_named, elab_reason, segments_reason, stop_reason, types_reason, words_reason};
 
 use ooo_checked::TypeBreach;
 use ooo_lexer::LexBreach;
@@ -101,6 +101,13 @@ pub fn code_reason() -> &'static str
     ensures { result.now ≡ code_reason }
 {
     "the code of its processes is too large, where that of each function counts anew for each call"
+}
+
+/// Why the design of a text's model can't be used.
+pub fn segments_reason() -> &'static str
+    ensures { result.now ≡ segments_reason }
+{
+    "its processes have more than 1024 segments: one from each start, and one from each wait on"
 }
 
 /// The breach of elaboration that has this name.

@@ -1,6 +1,6 @@
 use crate::{
     code_reason, elab_breach, elab_reason, lexer_breach, lexer_reason, parser_breach,
-    parser_reason, stop_reason, types_breach, types_reason, words_reason,
+    parser_reason, segments_reason, stop_reason, types_breach, types_reason, words_reason,
 };
 use ooo_checked::TypeBreach;
 use ooo_lexer::LexBreach;
@@ -21,6 +21,10 @@ fn says_what_is_wrong(rt: HostRuntime) {
     assert_eq!(rt;
         code_reason(),
         "the code of its processes is too large, where that of each function counts anew for each call"
+    );
+    assert_eq!(rt;
+        segments_reason(),
+        "its processes have more than 1024 segments: one from each start, and one from each wait on"
     );
     assert_eq!(rt; lexer_reason(LexBreach::BadNumber), "this is no number");
     assert_eq!(rt; lexer_breach("BadNumber"), Some(LexBreach::BadNumber));

@@ -13,18 +13,25 @@ use Rattle.ooo_words.specs.declared.refused.WordsError.{WordsError}
 use Rattle.ooo_words.specs.Limits.{StopsInTime}
 use Rattle.ooo_front.specs.declared.answer.Refused.{Refused}
 use Rattle.ooo_front.specs.declared.answer.Refused.TheVariants as why
+use Rattle.ooo_front.specs.declared.answer.Accepted.{Accepted}
+use Rattle.ooo_front.specs.Laws.{HasOneAnswer}
 use Rattle.ooo_front.specs.Layers.{IsAnswerTo, IsFrontOf}
+use Rattle.ooo_tables.specs.declared.tables.Tables.{Tables}
+use Rattle.ooo_tables.specs.Tables.{AreTables}
+use Rattle.ooo_tables.specs.Text.{tables_text}
+use Rattle.ooo_code.specs.declared.design.Design.{Design}
 use Rattle.ooo_plain.specs.Cycles.{AreInRange as AreRunLimits}
 use Rattle.ooo_sim.specs.declared.reply.Reply.{Reply}
 use Rattle.ooo_sim.specs.declared.reply.TheConstants.{MOST_BYTES}
 use Rattle.ooo_sim.specs.declared.request.Asked.{Asked}
 use Rattle.ooo_sim.specs.declared.request.Request.{Request}
 use Rattle.ooo_sim.specs.declared.request.Request.TheVariants as request
+use Rattle.ooo_sim.specs.declared.request.Wanted.{Wanted}
+use Rattle.ooo_sim.specs.declared.request.Wanted.TheVariants as wanted
 use Rattle.ooo_sim.specs.declared.status.Status.TheVariants as status
-use Rattle.ooo_sim.specs.Laws.{AcceptedAreReady, HasOneReading, HasOneReply}
+use Rattle.ooo_sim.specs.Laws.{AcceptedAreReady, HasOneReply}
 use Rattle.ooo_sim.specs.Lines.{refusal_line}
-use Rattle.ooo_sim.specs.Readings.{IsReadAs, Models, Reading, Refuses, Unstopped, stop_of}
-use Rattle.ooo_sim.specs.Replies.{reply, Reports, limits_of, report_of, status_of, IsReplyOf, IsTextReply, too_long, read, IsReplyTo}
+use Rattle.ooo_sim.specs.Replies.{reply, Reports, limits_of, report_of, status_of, stop_of, IsFrontReply, IsReplyOf, IsRunReply, IsTextReply, Lists, too_long, read, IsReplyTo}
 use Rattle.ooo_sim.specs.Requests.{AreInRange, request_of}
 use Rattle.ooo_sim.proofs.Reports.{AreSame, by_nodes}
 
@@ -33,30 +40,47 @@ abbrev pub HasOneRun : Type 0
 HasOneRun = (d : sequence.Result) (b : Bound) (limits : Limits) (q : sequence.Result) → nodes.IsSequentialRun (design_of b) limits d →
     nodes.IsSequentialRun (design_of b) limits q → d ≡ q
 
-module _ (one_reading : HasOneReading) (ready : AcceptedAreReady) (same : AreSame) (one_run : HasOneRun) where
+-- the tables of a design are one
+abbrev pub HasOneTables : Type 0
+HasOneTables = (d : Design) (s t : Tables) → AreTables d s → AreTables d t → s ≡ t
+
+module _ (one_answer : HasOneAnswer) (ready : AcceptedAreReady) (tables : HasOneTables) (same : AreSame) (one_run : HasOneRun) where
   one_report : (b : Bound) (limits : Limits) → IsSound b → (x y : Reply) → Reports b limits x → Reports b limits y → x ≡ y
   one_report b limits sound x y p q =
       p.is ∙ ap (λ r. reply (status_of r.end) (report_of b.names r))
       (one_run p.result b limits q.result (by_nodes same b limits p.result sound p.run) (by_nodes same b limits q.result sound q.run)) ∙ sym q.is
 
-  -- a text that is read in one way has one reply
-  one_of : (asked : Asked) (text : List ℕ) (r : Reading) (a b : Reply) → IsReadAs asked.stop text r → IsReplyOf asked r a → IsReplyOf asked r b → a ≡ b
-  one_of asked text (Refuses why) a b is h k = h ∙ sym k
-  one_of asked text Unstopped a b is h k = h ∙ sym k
-  one_of asked text (Models m stop) a b is h k =
-      one_report m (limits_of asked stop) (subst IsSound is.model (ready text is.accepted is.is).sound) a b h k
+  one_run_reply : (asked : Asked) (b : Bound) (stop : Option Time) → IsSound b → (x y : Reply) → IsRunReply asked b stop x → IsRunReply asked b stop y → x ≡ y
+  one_run_reply asked b None sound x y h k = h ∙ sym k
+  one_run_reply asked b (Some stop) sound x y h k = one_report b (limits_of asked stop) sound x y h k
 
-  one_text : (asked : Asked) (text : List ℕ) (a b : Reply) → IsTextReply asked text a → IsTextReply asked text b → a ≡ b
-  one_text asked text a b (too_long h e) (too_long k f) = e ∙ sym f
-  one_text asked text a b (too_long h e) (read k s t f) = absurd (omega arith)
-  one_text asked text a b (read h r t e) (too_long k f) = absurd (omega arith)
-  one_text asked text a b (read h r t e) (read k s u f) =
-      one_of asked text s a b u (subst (λ z. IsReplyOf asked z a) (one_reading asked.stop text r s t u) e) f
+  one_list : (accepted : Accepted) (x y : Reply) → Lists accepted x → Lists accepted y → x ≡ y
+  one_list accepted x y p q =
+      p.is ∙ ap (λ (t : Tables). reply status.Done (tables_text accepted.design accepted.bound.names.processes t))
+      (tables accepted.design p.tables q.tables p.are q.are) ∙ sym q.is
+
+  -- what is asked of an accepted text has one reply
+  one_of : (w : Wanted) (text : List ℕ) (accepted : Accepted) (a b : Reply) → IsFrontOf text (Ok accepted) → IsReplyOf w accepted a → IsReplyOf w accepted b → a ≡ b
+  one_of (wanted.Report asked) text accepted a b is h k =
+      one_run_reply asked accepted.bound (stop_of asked.stop accepted.bound) (ready text accepted is).sound a b h k
+  one_of wanted.Counts text accepted a b is h k = h ∙ sym k
+  one_of wanted.Tables text accepted a b is h k = one_list accepted a b h k
+
+  one_front : (w : Wanted) (text : List ℕ) (r : Result Accepted Refused) (a b : Reply) → IsFrontOf text r → IsFrontReply w r a → IsFrontReply w r b → a ≡ b
+  one_front w text (Ok accepted) a b is h k = one_of w text accepted a b is h k
+  one_front w text (Err why) a b is h k = h ∙ sym k
+
+  one_text : (w : Wanted) (text : List ℕ) (a b : Reply) → IsTextReply w text a → IsTextReply w text b → a ≡ b
+  one_text w text a b (too_long h e) (too_long k f) = e ∙ sym f
+  one_text w text a b (too_long h e) (read k s t f) = absurd (omega arith)
+  one_text w text a b (read h r t e) (too_long k f) = absurd (omega arith)
+  one_text w text a b (read h r t e) (read k s u f) =
+      one_front w text s a b u (subst (λ z. IsFrontReply w z a) (one_answer text r s t u) e) f
 
   one_to : (to : Result Request WordsError) (bytes : List ℕ) (a b : Reply) → IsReplyTo to bytes a → IsReplyTo to bytes b → a ≡ b
   one_to (Err breach) bytes a b h k = h ∙ sym k
   one_to (Ok request.NotBuilt) bytes a b h k = h ∙ sym k
-  one_to (Ok (request.Plain asked)) bytes a b h k = one_text asked bytes a b h k
+  one_to (Ok (request.OfText w)) bytes a b h k = one_text w bytes a b h k
 
   pub one_reply : HasOneReply
   one_reply words bytes a b h k = one_to (request_of words) bytes a b h k
@@ -68,16 +92,17 @@ front_refusal text (why.Parser breach at) some is = is
 front_refusal text (why.Types breach at) some is = is
 front_refusal text (why.Elaborate e) some is = is
 front_refusal text why.CodeTooLarge some is = is
+front_refusal text why.TooManySegments some is = is
 front_refusal text why.OutOfMemory some is = absurd (some refl)
 
 -- the reply to a text that is read
-module _ {E : Type 0} (asked : Asked) (text : List ℕ) (short : length text ≤ MOST_BYTES) where
-  pub replies : (a : Reading) → IsReadAs asked.stop text a → (r : Result Reply E) → IfOk r (IsReplyOf asked a) → IfOk r (IsTextReply asked text)
-  replies a is (Ok r) h = read short a is h
-  replies a is (Err e) h = tt
+module _ {E : Type 0} (w : Wanted) (text : List ℕ) (short : length text ≤ MOST_BYTES) where
+  pub replies : (accepted : Accepted) → IsAnswerTo text (Ok accepted) → (r : Result Reply E) → IfOk r (IsReplyOf w accepted) → IfOk r (IsTextReply w text)
+  replies accepted is (Ok r) h = read short (Ok accepted) is h
+  replies accepted is (Err e) h = tt
 
-  pub refuses : (e : Refused) → IsAnswerTo text (Err e) → (r : Result Reply E) → OnOk r (e ≢ why.OutOfMemory) → IfOk r (λ z. z ≡ reply status.TextRefused (refusal_line e)) → IfOk r (IsTextReply asked text)
-  refuses e is (Ok r) some h = read short (Refuses e) (front_refusal text e some is) h
+  pub refuses : (e : Refused) → IsAnswerTo text (Err e) → (r : Result Reply E) → OnOk r (e ≢ why.OutOfMemory) → IfOk r (λ z. z ≡ reply status.TextRefused (refusal_line e)) → IfOk r (IsTextReply w text)
+  refuses e is (Ok r) some h = read short (Err e) (front_refusal text e some is) h
   refuses e is (Err x) some h = tt
 
 -- ---- limits

@@ -1,5 +1,4 @@
 pub mod Bytes
 pub mod Writing
-pub mod Readings
 pub mod Reports
 pub mod Answers

@@ -18,6 +18,7 @@ use Rattle.ooo_meaning.specs.Sequence.{Result, output_of}
 use Rattle.ooo_activation.specs.Runs as statements
 use Rattle.ooo_activation.specs.Sound.{IsSound}
 use Rattle.ooo_shapes.specs.Designs.{design_of, process_size, processes_from}
+use Rattle.ooo_front.specs.declared.answer.Accepted.{Accepted}
 use Rattle.ooo_endings.specs.Endings.{EndingsAreNamed, RunsHaveHistories}
 use Rattle.ooo_plain.specs.Running.{ShowsRun}
 use Rattle.ooo_sim.specs.declared.reply.Reply.{Reply}
@@ -50,6 +51,14 @@ report_shown run r names shows = rw (shows.output, shows.histories, shows.ending
 processes_length : (b : Bound) (first : ℕ) (ps : List BoundProcess) → length (processes_from b first ps) ≡ length ps
 processes_length b first [] = refl
 processes_length b first (p ∷ ps) = ap suc (processes_length b (first + process_size b p) ps)
+
+-- each process of what is accepted has a name
+pub processes_named : (accepted : Accepted) → IsReady accepted → length accepted.design.processes ≤ length accepted.bound.names.processes
+processes_named accepted ready =
+    let b = accepted.bound in
+    let own : length accepted.design.processes ≡ length b.processes = ap (λ (d : Design). length d.processes) ready.design ∙ processes_length b 0 b.processes in
+    let names = ready.names.processes in
+    omega (arith, own, names)
 
 module _ (same : AreSame) (all : RunsHaveHistories) (ends : EndingsAreNamed) (b : Bound) (names : length b.names.processes ≡ length b.processes)
     (channels : length b.names.channels ≡ length b.channels) (limits : Limits) (run : Run) (shown : ShowsRun (design_of b) limits run) where

@@ -1,7 +1,7 @@
 pub mod Statuses
 pub mod Requests
 pub mod Lines
-pub mod Readings
+pub mod Counts
 pub mod Replies
 pub mod Pumps
 pub mod Calls

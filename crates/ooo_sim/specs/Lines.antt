@@ -34,4 +34,5 @@ refusal_line (refused.Parser breach at) = layer_line (codes "parser") (parser_na
 refusal_line (refused.Types breach at) = layer_line (codes "types") (type_name_of breach) at
 refusal_line (refused.Elaborate why) = elaborate_line why
 refusal_line refused.CodeTooLarge = codes "refused lower CodeTooLarge\n"
+refusal_line refused.TooManySegments = codes "refused segments TooManySegments\n"
 refusal_line refused.OutOfMemory = []

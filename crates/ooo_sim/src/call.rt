@@ -4,14 +4,14 @@ ghost use Rattle.ooo_words.specs.Refused.{refusal_line};
 ghost use Rattle.ooo_sim.specs.Calls.{Wrote, Took, IsReplyFrom};
 ghost use Rattle.ooo_sim.specs.Pumps.{GaveFirst, AppendsPrefix};
 ghost use Rattle.ooo_sim.specs.Replies.{IsReplyTo, reply};
-ghost use Rattle.ooo_sim.specs.Requests.{AreInRange, words_of, request_of, bytes_wanted};
+ghost use Rattle.ooo_sim.specs.Requests.{IsInRange, words_of, request_of, bytes_wanted};
 ghost use Rattle.ooo_sim.specs.Statuses.{IsFailure};
 ghost use Rattle.ooo_sim.specs.declared.request.Request.TheVariants as request;
 
 use crate::law::one_reply;
 use crate::pump::{ReadError, read_text, write_text};
 use crate::reply::{MOST_BYTES, Reply, reply_to};
-use crate::request::{Asked, Request, read_request};
+use crate::request::{Request, Wanted, read_request};
 use crate::status::Status;
 use ooo_outside::{Failed, Gate, Sink, Source};
 use ooo_words::{WordsError, refusal};
@@ -21,10 +21,11 @@ use std::thread::Threads;
 
 /// Does what the words ask for, where no worker threads are needed, and answers the status.
 ///
-/// The command `plain` reads a model text from the source, runs it by the sequential scheduler up to its stop time, or
-/// to that of `--stop`, within the limits of `--deltas` and `--statements`, and writes its report to the sink. A text
-/// that is refused gives one line, and so do words that are refused, that ask for what isn't built (the other commands),
-/// or for the run of a text that nothing stops.
+/// The commands `plain`, `check` and `tables` read a model text from the source. `plain` runs it by the sequential
+/// scheduler up to its stop time, or to that of `--stop`, within the limits of `--deltas` and `--statements`, and writes
+/// its report to the sink. `check` writes how many processes and segments the text's model has, and `tables` the tables of
+/// its segments. A text that is refused gives one line, and so do words that are refused, that ask for what isn't built
+/// (the commands `run` and `bench`), or for the run of a text that nothing stops.
 pub fn alone<So: Source, Si: Sink>(
     alloc: Global,
     words: &[String],
@@ -91,17 +92,17 @@ fn answer<So: Source>(alloc: Global, words: &[String], source: &mut So) -> Resul
         → Rose (So.faults source.old) (So.faults source.new) }
 {
     match read_request(alloc, words) {
-        Ok(Request::Plain(asked)) => plain(alloc, source, asked),
+        Ok(Request::OfText(wanted)) => of_text(alloc, source, wanted),
         Ok(Request::NotBuilt) => Ok(not_built(alloc)?),
         Err(WordsError::OutOfMemory) => Err(ReadError::OutOfMemory),
         Err(error) => Ok(refuse(alloc, &error)?),
     }
 }
 
-// The reply to the text that a source gives.
-fn plain<So: Source>(alloc: Global, source: &mut So, asked: Asked) -> Result<Reply, ReadError>
-    requires { AreInRange asked }
-    ensures reply { IfOk result (IsReplyFrom (Ok (request.Plain asked)) (So.rest source.old)) }
+// The reply to what is asked of the text that a source gives.
+fn of_text<So: Source>(alloc: Global, source: &mut So, wanted: Wanted) -> Result<Reply, ReadError>
+    requires { IsInRange wanted }
+    ensures reply { IfOk result (IsReplyFrom (Ok (request.OfText wanted)) (So.rest source.old)) }
     ensures own { IfOk result (λ reply. ¬ IsFailure reply.status) }
     ensures given { IfOk result (λ _.
         GaveFirst (MOST_BYTES + 1) (So.rest source.old) (So.rest source.new)) }
@@ -109,7 +110,7 @@ fn plain<So: Source>(alloc: Global, source: &mut So, asked: Asked) -> Result<Rep
         → Rose (So.faults source.old) (So.faults source.new) }
 {
     let text = read_text(alloc, source, MOST_BYTES + 1)?;
-    Ok(reply_to(alloc, &text, asked)?)
+    Ok(reply_to(alloc, &text, wanted)?)
 }
 
 // The reply to words that ask for something that isn't built.

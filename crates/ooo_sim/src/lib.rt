@@ -1,11 +1,12 @@
 //! The program's calls: what a simulation reads, runs and writes.
 //!
 //! [`alone`] and [`simulate`] carry the whole contract of the program. `specs/Replies.antt` says what a call would write,
-//! as one relation of the words, the bytes that they have read, and a reply; `specs/Readings.antt` what a text is to a
-//! call, and `specs/Calls.antt` what a call reads and writes of its source and its sink.
+//! as one relation of the words, the bytes that they have read, and a reply; `specs/Calls.antt` what a call reads and writes
+//! of its source and its sink.
 #![tactic(auto)]
 
 mod call;
+mod counts;
 pub mod law;
 mod lines;
 mod pump;
@@ -15,5 +16,5 @@ mod status;
 
 pub use call::{alone, simulate};
 pub use reply::{MOST_BYTES, Reply};
-pub use request::{Asked, Request};
+pub use request::{Asked, Request, Wanted};
 pub use status::Status;

@@ -19,6 +19,9 @@ pub(crate) fn refusal_line(alloc: Global, why: &Refused) -> Result<Vec<u8>, Allo
         Refused::Types(breach, at) => layer_line(alloc, "types", breach.name(), *at),
         Refused::Elaborate(why) => elaborate_line(alloc, why),
         Refused::CodeTooLarge => Vec::from_slice(alloc, b"refused lower CodeTooLarge\n"),
+        Refused::TooManySegments => {
+            Vec::from_slice(alloc, b"refused segments TooManySegments\n")
+        }
         Refused::OutOfMemory => Err(AllocError),
     }
 }

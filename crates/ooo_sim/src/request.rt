@@ -17,11 +17,22 @@ pub struct Asked {
     pub statements: u32,
 }
 
+/// What is asked of a text.
+#[derive(Clone, Copy, Debug, PartialEq, Eq)]
+pub enum Wanted {
+    /// The report of its model's run by the sequential scheduler: the command `plain`.
+    Report(Asked),
+    /// How many processes and segments its model has: the command `check`.
+    Counts,
+    /// The tables of its model's segments: the command `tables`.
+    Tables,
+}
+
 /// What the words ask for, of what is built.
 #[derive(Clone, Copy, Debug, PartialEq, Eq)]
 pub enum Request {
-    /// The report of a run by the sequential scheduler.
-    Plain(Asked),
+    /// Something of the text that the source gives.
+    OfText(Wanted),
     /// Something that isn't built.
     NotBuilt,
 }
@@ -52,11 +63,13 @@ fn request_for(command: Command) -> Request
             stop,
             deltas,
             statements,
-        } => Request::Plain(Asked {
+        } => Request::OfText(Wanted::Report(Asked {
             stop,
             deltas,
             statements,
-        }),
+        })),
+        Command::Check => Request::OfText(Wanted::Counts),
+        Command::Tables => Request::OfText(Wanted::Tables),
         _ => Request::NotBuilt,
     }
 }

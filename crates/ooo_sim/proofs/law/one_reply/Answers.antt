@@ -6,5 +6,5 @@ use Rattle.ooo_sim.proofs.law.one_reply.Goals as goal
 
 pub returns : goal.returns
 returns c =
-    one c.one_reading.ensures.one c.accepted_are_ready.ensures c.same_runs.ensures
+    one c.one_answer.ensures.one c.accepted_are_ready.ensures c.one_tables.ensures c.same_runs.ensures
     (λ r b limits q x y. c.one_run.ensures (by_nodes (design_of b) limits.statements) (ascending (design_of b)) limits (start_of (design_of b)) r q x y)

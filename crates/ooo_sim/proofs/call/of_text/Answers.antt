@@ -1,4 +1,4 @@
-use Rattle.ooo_sim.proofs.call.plain.Goals as goal
+use Rattle.ooo_sim.proofs.call.of_text.Goals as goal
 
 pub returns-clause-reply : goal.returns-clause-reply
 returns-clause-reply g c = record {
