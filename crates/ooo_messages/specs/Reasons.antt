@@ -48,7 +48,7 @@ lexer_reason lexer.BadNumber = codes "this is no number"
 
 -- what is wrong with a text that the grammar refuses
 abbrev pub parser_reason : ParseBreach → List ℕ
-parser_reason parser.Syntax = codes "no text of the grammar goes on with this"
+parser_reason parser.Syntax = codes "the grammar doesn't go on with this; often a ';' or a bracket is missing before it"
 parser_reason parser.TooDeep = codes "this stands too deep, or is one operator too many"
 parser_reason parser.NotInProfile = codes "C++ or SystemC has this here, but the simulator doesn't take it"
 
@@ -62,7 +62,7 @@ types_reason types.WaitInFunction = codes "a function that is called, or that is
 types_reason types.RecursiveCall = codes "by this call a function may call itself"
 types_reason types.NotAPort = codes "the instance's module has no port of this name"
 types_reason types.WrongCount = codes "there are too many arguments, too few, or arguments of another form"
-types_reason types.EffectInside = codes "a call that does more than give a value can't stand inside an expression"
+types_reason types.EffectInside = codes "this call can't stand inside an expression: give its value to a local first"
 types_reason types.NotConstant = codes "this has to be known before the simulation, and isn't"
 
 -- why a text whose names and types are right can't be elaborated

@@ -48,7 +48,8 @@ pub fn parser_reason(breach: ParseBreach) -> &'static str
     ensures { result.now ≡ parser_reason breach }
 {
     match breach {
-        ParseBreach::Syntax => "no text of the grammar goes on with this",
+        ParseBreach::Syntax =>
+            "the grammar doesn't go on with this; often a ';' or a bracket is missing before it",
         ParseBreach::TooDeep => "this stands too deep, or is one operator too many",
         ParseBreach::NotInProfile =>
             "C++ or SystemC has this here, but the simulator doesn't take it",
@@ -71,7 +72,7 @@ pub fn types_reason(breach: TypeBreach) -> &'static str
         TypeBreach::WrongCount =>
             "there are too many arguments, too few, or arguments of another form",
         TypeBreach::EffectInside =>
-            "a call that does more than give a value can't stand inside an expression",
+            "this call can't stand inside an expression: give its value to a local first",
         TypeBreach::NotConstant => "this has to be known before the simulation, and isn't",
     }
 }

@@ -31,7 +31,7 @@ fn says_what_is_wrong(rt: HostRuntime) {
     assert_eq!(rt; lexer_breach("Bad"), None);
     assert_eq!(rt;
         parser_reason(ParseBreach::Syntax),
-        "no text of the grammar goes on with this"
+        "the grammar doesn't go on with this; often a ';' or a bracket is missing before it"
     );
     assert_eq!(rt; parser_breach("TooDeep"), Some(ParseBreach::TooDeep));
     assert_eq!(rt; parser_breach("BadNumber"), None);
