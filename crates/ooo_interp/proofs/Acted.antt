@@ -1,6 +1,6 @@
 -- What a node's own steps come to, over plain variables.
 use Rattle.std.proofs.Common.{◌≡◌, ℕ, List, [], ◌∷◌, Option, Result, Ok, Err, Some, IsErrAnd, slice_get, sym, ap, subst, ◌∙◌}
-use Rattle.std.specs.Prelude.{IfSome}
+use Rattle.std.specs.Prelude.{IfOk, IfSome}
 use Rattle.ooo_value.specs.declared.operators.Fault.{Fault}
 use Rattle.ooo_value.specs.declared.values.Value.{Value}
 use Rattle.ooo_code.specs.declared.activation.Effect.{Effect}
@@ -56,3 +56,7 @@ acts_by r node k number result before after is does = subst (λ x. Steps r node.
 -- a node that is done plainly does what its kind does
 pub plainly : (k is : NodeKind) (to : ℕ) (r : Option ℕ) (s t : Sight) → k ≡ is → IfSome r (λ n. (m : Made) → ActsAs is to (Ok n) (doing_of s m) (doing_of t m)) → IfSome r (λ n. (m : Made) → ActsAs k to (Ok n) (doing_of s m) (doing_of t m))
 plainly k is to r s t e does = subst (λ x. IfSome r (λ n. (m : Made) → ActsAs x to (Ok n) (doing_of s m) (doing_of t m))) (sym e) does
+
+-- a node that writes does what its kind does, unless memory runs out
+pub written : {E : Type 0} (k is : NodeKind) (to : ℕ) (r : Result (Option ℕ) E) (before after : Doing) → k ≡ is → IfOk r (λ o. IfSome o (λ n. ActsAs is to (Ok n) before after)) → IfOk r (λ o. IfSome o (λ n. ActsAs k to (Ok n) before after))
+written k is to r before after e does = subst (λ x. IfOk r (λ o. IfSome o (λ n. ActsAs x to (Ok n) before after))) (sym e) does

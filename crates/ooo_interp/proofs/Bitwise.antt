@@ -1,5 +1,5 @@
 -- Operators on the bits of two values of one kind: converted to that kind, its values are as they were.
-use Rattle.std.proofs.Common.{◌≡◌, ℕ, ◌%◌, ◌^◌, ◌<◌, Ok, ap, refl, ℤ, pos, FitsSigned}
+use Rattle.std.proofs.Common.{◌≡◌, ℕ, ◌^◌, ◌<◌, Ok, ap, ℤ, pos, FitsSigned}
 use Rattle.std.specs.Int.{int_wrap, w32, w64}
 use Rattle.std.proofs.Math.Nat.{mod-eq_of_lt}
 use Rattle.std.proofs.lemmas.Int.{int_wrap_fits}

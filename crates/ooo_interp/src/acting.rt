@@ -49,7 +49,8 @@ pub(crate) fn act<'a, L: Lent>(
 }
 
 // How a process ends: a thread as its body does, and a method with what it waits for next.
-fn at_end<'a>(made: &mut Made<'a>, activation: &Activation<'a>) -> Halt<'a>
+#[inline(always)]
+pub(crate) fn at_end<'a>(made: &mut Made<'a>, activation: &Activation<'a>) -> Halt<'a>
     ensures { (line : ℕ) (s : Sight) →
         let r = running_of activation.now in let d = doing_of s made.old in
         IsHalt r line result (doing_of s made.new) (at_end r r.process.kind d.trigger d) }

@@ -119,7 +119,7 @@ fn on_ulongs(op: Op, x: u64, y: u64) -> Result<Value, Fault>
 
 // An exact result, which is there where an int holds it.
 #[inline(always)]
-fn int_or_overflow(exact: Option<i32>) -> Result<Value, Fault>
+pub(crate) fn int_or_overflow(exact: Option<i32>) -> Result<Value, Fault>
     ensures { (z : ℤ) → SomeIff exact (FitsSigned w32 z) z → result ≡ result_in kind.Int z }
 {
     match exact {
@@ -130,7 +130,7 @@ fn int_or_overflow(exact: Option<i32>) -> Result<Value, Fault>
 
 // An exact result, which is there where a long long holds it.
 #[inline(always)]
-fn long_or_overflow(exact: Option<i64>) -> Result<Value, Fault>
+pub(crate) fn long_or_overflow(exact: Option<i64>) -> Result<Value, Fault>
     ensures { (z : ℤ) → SomeIff exact (FitsSigned w64 z) z → result ≡ result_in kind.Long z }
 {
     match exact {

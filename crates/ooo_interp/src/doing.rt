@@ -76,7 +76,7 @@ impl<'a> Made<'a> {
     }
 
     // Adds an effect.
-    fn add(&mut self, effect: Effect) -> Result<(), AllocError>
+    pub(crate) fn add(&mut self, effect: Effect) -> Result<(), AllocError>
         ensures { OnOk result ((s : Sight) →
             doing_of s self.new ≡ with_effect effect (doing_of s self.old)) }
     {

@@ -1,17 +1,22 @@
-//! Nodes that only compute with ints and unsigned ints, done at once: most of those that run are so.
+//! Nodes that only compute with numbers of one kind, and write what they compute into a local, a variable or a
+//! signal, done at once: most of those that run are so. What isn't plain in this way gives none, and nothing is done.
 
-ghost use Rattle.std.specs.Prelude.{◌≡◌, IfNone, IfSome, None, Ok, Some};
+ghost use Rattle.std.specs.Prelude.{◌≡◌, IfNone, IfOk, IfSome, None, Ok, Some};
 ghost use Rattle.ooo_code.specs.declared.node.NodeKind.TheVariants as kind;
-ghost use Rattle.ooo_code.specs.Expressions.{reading_of};
+ghost use Rattle.ooo_code.specs.Expressions.{on_value, reading_of};
 ghost use Rattle.ooo_interp.specs.Acting.{ActsAs, doing_of};
 ghost use Rattle.ooo_interp.specs.declared.doing.Made.{Made as MadeSpec};
+ghost use Rattle.ooo_value.specs.Operators.{binary_of};
 ghost use Rattle.ooo_value.specs.declared.values.Value.TheVariants as ValueSpec;
 
-use crate::expressions::index_below;
-use crate::numbers::{compared, int_combined, int_operand, uint_combined, uint_operand};
+use crate::doing::Made;
+use crate::expressions::{evaluate, index_below};
+use crate::numbers::kinds::Operand;
+use crate::numbers::{combined, operand};
 use crate::parts::Lent;
-use ooo_code::{Node, NodeExpr, NodeKind};
-use ooo_value::{Kind, Value, convert, truth};
+use ooo_code::{Effect, Node, NodeExpr, NodeKind};
+use ooo_value::{Kind, Op, Value, truth};
+use std::alloc::AllocError;
 
 // Does what a node does, where that is plain: the next node. Where it isn't, nothing is done.
 #[inline(always)]
@@ -29,6 +34,45 @@ pub(crate) fn do_plainly<L: Lent>(lent: &mut L, node: &Node) -> Option<u32>
         NodeKind::Goto => Some(to),
         _ => None,
     }
+}
+
+// Does what a node does that writes a signal, where its value is plain: the next node. Else nothing is done.
+#[inline(always)]
+pub(crate) fn write_plainly<'a, L: Lent>(
+    lent: &L,
+    made: &mut Made<'a>,
+    node: &Node,
+) -> Result<Option<u32>, AllocError>
+    ensures acts { let s = L.sight lent.now in
+        IfOk result (λ to. IfSome to (λ n. ActsAs node.now.kind node.now.next (Ok n)
+        (doing_of s made.old) (doing_of s made.new))) }
+    ensures none { IfOk result (λ to. IfNone to (made.new ≡ made.old)) }
+{
+    match &node.kind {
+        NodeKind::Write(c, e) => write(lent, made, *c, e, node.next),
+        _ => Ok(None),
+    }
+}
+
+// A value of a signal is requested.
+#[inline(always)]
+fn write<'a, L: Lent>(
+    lent: &L,
+    made: &mut Made<'a>,
+    signal: u32,
+    e: &NodeExpr,
+    to: u32,
+) -> Result<Option<u32>, AllocError>
+    ensures acts { let s = L.sight lent.now in
+        IfOk result (λ next. IfSome next (λ n. ActsAs (kind.Write signal e.now) to (Ok n)
+        (doing_of s made.old) (doing_of s made.new))) }
+    ensures none { IfOk result (λ next. IfNone next (made.new ≡ made.old)) }
+{
+    let Some(v) = plain_value(lent, e) else {
+        return Ok(None);
+    };
+    made.add(Effect::Request(signal, v))?;
+    Ok(Some(to))
 }
 
 // A local gets a value.
@@ -94,7 +138,7 @@ fn store_at<L: Lent>(
     ensures kept { L.kept lent.new ≡ L.kept lent.old }
 {
     let v = plain_value(lent, e)?;
-    let index = int_operand(lent, i)?;
+    let index: i32 = operand(lent, i)?;
     let at = index_below(lent.cells(variable).len(), Value::Int(index))?;
     lent.set_cell(variable, at, v);
     Some(to)
@@ -110,7 +154,7 @@ fn test<L: Lent>(lent: &L, e: &NodeExpr, to: u32, other: u32) -> Option<u32>
     Some(if truth(Value::Bool(holds)) { to } else { other })
 }
 
-// What an expression gives, where that is a constant, an int or an unsigned int.
+// What an expression gives, where that is a constant or a number that is converted to its own kind.
 #[inline(always)]
 #[tactic(auto, unfolding(ooo_code::specs::Expressions::reading_of))]
 fn plain_value<L: Lent>(lent: &L, e: &NodeExpr) -> Option<Value>
@@ -118,54 +162,51 @@ fn plain_value<L: Lent>(lent: &L, e: &NodeExpr) -> Option<Value>
 {
     match e {
         NodeExpr::Constant(v) => Some(*v),
-        NodeExpr::Convert(Kind::Int, a) => {
-            let x = root_int(lent, a.get())?;
-            Some(convert(Value::Int(x), Kind::Int))
-        }
-        NodeExpr::Convert(Kind::Uint, a) => {
-            let x = root_uint(lent, a.get())?;
-            Some(convert(Value::Uint(x), Kind::Uint))
-        }
+        NodeExpr::Convert(Kind::Int, a) => Some(Value::Int(root(lent, a.get())?)),
+        NodeExpr::Convert(Kind::Uint, a) => Some(Value::Uint(root(lent, a.get())?)),
+        NodeExpr::Convert(Kind::Long, a) => Some(Value::Long(operand(lent, a.get())?)),
+        NodeExpr::Convert(Kind::Ulong, a) => Some(Value::Ulong(operand(lent, a.get())?)),
         _ => None,
     }
 }
 
-// Whether a comparison of two ints holds.
+// Whether a comparison of two numbers of one kind holds.
 #[inline(always)]
 #[tactic(auto, unfolding(ooo_code::specs::Expressions::reading_of))]
 fn plain_truth<L: Lent>(lent: &L, e: &NodeExpr) -> Option<bool>
     ensures { IfSome result (λ t. Ok (ValueSpec.Bool t) ≡ reading_of e.now (L.sight lent.now)) }
 {
     match e {
-        NodeExpr::Binary(op, a, b) => {
-            let x = int_operand(lent, a.get())?;
-            let y = int_operand(lent, b.get())?;
-            compared(*op, x, y)
-        }
+        NodeExpr::Binary(op, a, b) => match operand::<i32, L>(lent, a.get()) {
+            Some(x) => i32::compared(*op, x, operand(lent, b.get())?),
+            None => other_truth(lent, *op, a.get(), b.get()),
+        },
         _ => None,
     }
 }
 
-// What an expression gives, where that is an int. The outermost operator needs no call.
-#[inline(always)]
-#[tactic(auto, unfolding(ooo_code::specs::Expressions::reading_of))]
-fn root_int<L: Lent>(lent: &L, e: &NodeExpr) -> Option<i32>
-    ensures { IfSome result (λ x. Ok (ValueSpec.Int x) ≡ reading_of e.now (L.sight lent.now)) }
+// The same, where the left operand isn't an int.
+#[inline(never)]
+fn other_truth<L: Lent>(lent: &L, op: Op, a: &NodeExpr, b: &NodeExpr) -> Option<bool>
+    ensures { let s = L.sight lent.now in IfSome result (λ t. Ok (ValueSpec.Bool t) ≡
+        on_value (reading_of a.now s) (λ v. on_value (reading_of b.now s) (λ w. binary_of op v w))) }
 {
-    match e {
-        NodeExpr::Binary(op, a, b) => int_combined(lent, *op, a.get(), b.get()),
-        _ => int_operand(lent, e),
+    match evaluate(lent, a) {
+        Ok(Value::Uint(x)) => u32::compared(op, x, operand(lent, b)?),
+        Ok(Value::Long(x)) => i64::compared(op, x, operand(lent, b)?),
+        Ok(Value::Ulong(x)) => u64::compared(op, x, operand(lent, b)?),
+        _ => None,
     }
 }
 
-// What an expression gives, where that is an unsigned int. The outermost operator needs no call.
+// What an expression gives, where that is a number of this kind. The outermost operator needs no call.
 #[inline(always)]
 #[tactic(auto, unfolding(ooo_code::specs::Expressions::reading_of))]
-fn root_uint<L: Lent>(lent: &L, e: &NodeExpr) -> Option<u32>
-    ensures { IfSome result (λ x. Ok (ValueSpec.Uint x) ≡ reading_of e.now (L.sight lent.now)) }
+fn root<N: Operand, L: Lent>(lent: &L, e: &NodeExpr) -> Option<N>
+    ensures { IfSome result (λ x. Ok (N.value x) ≡ reading_of e.now (L.sight lent.now)) }
 {
     match e {
-        NodeExpr::Binary(op, a, b) => uint_combined(lent, *op, a.get(), b.get()),
-        _ => uint_operand(lent, e),
+        NodeExpr::Binary(op, a, b) => combined(lent, *op, a.get(), b.get()),
+        _ => operand(lent, e),
     }
 }

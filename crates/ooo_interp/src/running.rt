@@ -1,14 +1,18 @@
+//! The loop over the nodes of an activation: how many statements it may count, where it goes on, and how it ends.
+
 ghost use Rattle.std.specs.Prelude.{◌≡◌, ℕ, IfOk};
-ghost use Rattle.ooo_code.specs.Nodes.{Next, act, steps};
-ghost use Rattle.ooo_interp.specs.Acting.{doing_of, running_of};
+ghost use Rattle.ooo_code.specs.declared.activation.Frame.{Frame};
+ghost use Rattle.ooo_code.specs.Nodes.{Doing, Next, Running, act, steps};
+ghost use Rattle.ooo_code.specs.Outcomes.{Outcome};
+ghost use Rattle.ooo_interp.specs.Acting.{IsHalt, doing_of, running_of};
 ghost use Rattle.ooo_interp.specs.Running.{Comes, Shortens, Turns, ended_by, from_node};
 
-use crate::acting::act;
+use crate::acting::{act, at_end};
 use crate::counting::Left;
 use crate::doing::{Activation, Halt, Made, Pause};
 use crate::parts::Lent;
-use crate::plainly::do_plainly;
-use ooo_code::{Node, SegmentEntry};
+use crate::plainly::{do_plainly, write_plainly};
+use ooo_code::{Node, NodeKind, SegmentEntry};
 use ooo_value::Fault;
 use sqlite_items::at;
 use std::alloc::AllocError;
@@ -115,7 +119,13 @@ fn do_node<'a, L: Lent>(
     if let Some(to) = do_plainly(lent, node) {
         return Ok(Turn::Goes(to));
     }
-    Ok(do_any(lent, made, activation, node, number)?)
+    if let Some(to) = write_plainly(lent, made, node)? {
+        return Ok(Turn::Goes(to));
+    }
+    match &node.kind {
+        NodeKind::End => halted(at_end(made, activation), node.line),
+        _ => Ok(do_any(lent, made, activation, node, number)?),
+    }
 }
 
 // Does what any node does.
@@ -136,9 +146,20 @@ fn do_any<'a, L: Lent>(
 {
     match act(lent, made, activation, node, number) {
         Ok(to) => Ok(Turn::Goes(to)),
-        Err(Halt::Waits(entry, pause)) => Ok(Turn::Over(End::Waits(entry, pause))),
-        Err(Halt::Ended) => Ok(Turn::Over(End::Ended)),
-        Err(Halt::Faulted(fault)) => Ok(Turn::Over(End::Faulted(fault, node.line))),
-        Err(Halt::OutOfMemory) => Err(AllocError),
+        Err(halt) => halted(halt, node.line),
+    }
+}
+
+// An activation that halts at a node of this line is over.
+#[inline(always)]
+fn halted<'a>(halt: Halt<'a>, line: u32) -> Result<Turn<'a>, AllocError>
+    ensures { (r : Running) (d : Doing) (o : Outcome Frame) → IsHalt r line halt.entry d o →
+        IfOk result (λ t. (next : Next) → Turns r t next d o) }
+{
+    match halt {
+        Halt::Waits(entry, pause) => Ok(Turn::Over(End::Waits(entry, pause))),
+        Halt::Ended => Ok(Turn::Over(End::Ended)),
+        Halt::Faulted(fault) => Ok(Turn::Over(End::Faulted(fault, line))),
+        Halt::OutOfMemory => Err(AllocError),
     }
 }

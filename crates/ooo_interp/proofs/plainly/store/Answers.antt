@@ -1,5 +1,5 @@
 -- Each of both does what a store with its index does.
-use Rattle.std.proofs.Common.{Option, None, Some, ap}
+use Rattle.std.proofs.Common.{Option, ap}
 use Rattle.ooo_code.specs.declared.expression.NodeExpr.{NodeExpr}
 use Rattle.ooo_code.specs.declared.node.NodeKind.{NodeKind}
 use Rattle.ooo_code.specs.declared.node.NodeKind.TheVariants as kind

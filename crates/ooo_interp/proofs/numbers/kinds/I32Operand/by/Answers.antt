@@ -3,7 +3,7 @@ use Rattle.std.proofs.Common.{bit_and, bit_or, bit_xor}
 use Rattle.std.specs.Int.{w32}
 use Rattle.ooo_value.proofs.Wraps.{signed_and, signed_or, signed_xor}
 use Rattle.ooo_interp.proofs.Bitwise.{ints}
-use Rattle.ooo_interp.proofs.numbers.int_by.Goals as goal
+use Rattle.ooo_interp.proofs.numbers.kinds.I32Operand.by.Goals as goal
 
 pub returns-in-BitAnd : goal.returns-in-BitAnd
 returns-in-BitAnd c = rw c.in-BitAnd.is (ints bit_and c.args.x c.args.y _ c.ranges.x c.ranges.y (signed_and w32 c.args.x c.args.y c.ranges.x c.ranges.y))

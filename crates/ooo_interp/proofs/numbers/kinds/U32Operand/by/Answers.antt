@@ -2,7 +2,7 @@
 use Rattle.std.proofs.Common.{◌<◌, ◌^◌, arith, bit_or, bit_xor}
 use Rattle.std.proofs.lemmas.Nat.{or_lt, xor_lt}
 use Rattle.ooo_interp.proofs.Bitwise.{uints}
-use Rattle.ooo_interp.proofs.numbers.uint_by.Goals as goal
+use Rattle.ooo_interp.proofs.numbers.kinds.U32Operand.by.Goals as goal
 
 pub returns-in-BitOr : goal.returns-in-BitOr
 returns-in-BitOr c =

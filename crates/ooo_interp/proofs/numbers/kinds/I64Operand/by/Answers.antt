@@ -1,0 +1,15 @@
+-- Bits of two signed values, by their residues.
+use Rattle.std.proofs.Common.{bit_and, bit_or, bit_xor}
+use Rattle.std.specs.Int.{w64}
+use Rattle.ooo_value.proofs.Wraps.{signed_and, signed_or, signed_xor}
+use Rattle.ooo_interp.proofs.Bitwise.{longs}
+use Rattle.ooo_interp.proofs.numbers.kinds.I64Operand.by.Goals as goal
+
+pub returns-in-BitAnd : goal.returns-in-BitAnd
+returns-in-BitAnd c = rw c.in-BitAnd.is (longs bit_and c.args.x c.args.y _ c.ranges.x c.ranges.y (signed_and w64 c.args.x c.args.y c.ranges.x c.ranges.y))
+
+pub returns-in-BitOr : goal.returns-in-BitOr
+returns-in-BitOr c = rw c.in-BitOr.is (longs bit_or c.args.x c.args.y _ c.ranges.x c.ranges.y (signed_or w64 c.args.x c.args.y c.ranges.x c.ranges.y))
+
+pub returns-in-BitXor : goal.returns-in-BitXor
+returns-in-BitXor c = rw c.in-BitXor.is (longs bit_xor c.args.x c.args.y _ c.ranges.x c.ranges.y (signed_xor w64 c.args.x c.args.y c.ranges.x c.ranges.y))
