@@ -14,6 +14,7 @@ use Rattle.ooo_time.specs.Stamps.{IsBefore}
 use Rattle.ooo_plain.specs.declared.agenda.Due.{Due}
 use Rattle.ooo_meaning.specs.World.{is_at, least}
 use Rattle.ooo_plain.specs.Agenda.{due_in, due_cmp, AllFrom, Takes, TakesNone}
+use Rattle.ooo_plain.specs.Row.{IsUpTo, IsLowest}
 use Rattle.ooo_plain.proofs.Order.{stamps_same, some_same}
 use Rattle.ooo_plain.proofs.Least.{From, at_same, at_is, neither, at_least, from_least}
 
@@ -32,7 +33,7 @@ is_equal Less e = absurd cc
 is_equal Equal e = refl
 is_equal Greater e = absurd cc
 
-same_due : (k q : Due) → k.stamp ≡ q.stamp → k.process ≡ q.process → k ≡ q
+pub same_due : (k q : Due) → k.stamp ≡ q.stamp → k.process ≡ q.process → k ≡ q
 same_due k q e f = rw (e, f) refl
 
 pub key_same : (k q : Due) → is_eq (due_cmp k q) ≡ true → k ≡ q
@@ -71,9 +72,15 @@ process_above k q e f =
     (λ le. le)
     (cases_lt q.process k.process)
 
+pub lowest_of : (has : Due → Bool) (k : Due) → has k ≡ true → ((q : Due) → has q ≡ true → is_gt (due_cmp k q) ≡ false) → IsLowest has k
+lowest_of has k is least = record {
+  member = is;
+  lowest = λ q e. record { stamp = stamp_above k q (least q e); process = λ s. process_above k q s (least q e) };
+}
+
 -- ---- a key is removed, or added
 
-other_key : (k q : Due) → is_eq (due_cmp k q) ≡ false → k ≢ q
+pub other_key : (k q : Due) → is_eq (due_cmp k q) ≡ false → k ≢ q
 other_key k q e f = let g : is_eq (due_cmp k q) ≡ true = subst (λ x. is_eq (due_cmp k x) ≡ true) f (key_self k) in let h : true ≡ false = sym g ∙ e in cc
 
 module _ (dues : List (Option Stamp)) (p : ℕ) (t : Stamp) (lt : p < length dues) (has new : Due → Bool) where
@@ -120,7 +127,7 @@ module _ (dues : List (Option Stamp)) (has : Due → Bool) (exact : (q : Due) �
     go None e = refl
     go (Some t) e = absurd (no_more (queued p t e) (h (due_at t p)))
 
-  module _ (k : Due) (is : has k ≡ true) (lowest : (q : Due) → has q ≡ true → is_gt (due_cmp k q) ≡ false) where
+  module _ (k : Due) (is : has k ≡ true) (lowest : (q : Due) → has q ≡ true → IsUpTo k q) where
     pub first_due : due_in dues k.process ≡ Some k.stamp
     first_due = at_is k.stamp _ (sym (exact k) ∙ is)
 
@@ -128,7 +135,7 @@ module _ (dues : List (Option Stamp)) (has : Due → Bool) (exact : (q : Due) �
     first_within = ⊎_elim (λ lt. lt) (λ le. let e : None ≡ Some k.stamp = sym (get_or_past dues k.process None le) ∙ first_due in absurd cc) (cases_lt k.process (length dues))
 
     pub all_from : AllFrom k.stamp dues
-    all_from p t e = stamp_above k (due_at t p) (lowest (due_at t p) (queued p t e))
+    all_from p t e = (lowest (due_at t p) (queued p t e)).stamp
 
     pub first_takes : (now : Stamp) (new : List (Option Stamp)) → AllFrom now dues → ¬ IsBefore now k.stamp → new ≡ set dues k.process None → Takes k.process now dues new
     first_takes now new from le e =
@@ -136,7 +143,7 @@ module _ (dues : List (Option Stamp)) (has : Due → Bool) (exact : (q : Due) �
         record {
           within = first_within;
           due = first_due ∙ ap Some same;
-          lowest = λ q lt d. absurd (let above : k.process ≤ q = process_above k (due_at now q) same (lowest (due_at now q) (queued q now d)) in omega (arith, lt, above));
+          lowest = λ q lt d. absurd (let above : k.process ≤ q = (lowest (due_at now q) (queued q now d)).process same in omega (arith, lt, above));
           new_is = e;
         }
 

@@ -2,6 +2,7 @@ pub mod Order
 pub mod Slots
 pub mod Least
 pub mod Exact
+pub mod Rows
 pub mod Waits
 pub mod Phases
 pub mod Asking

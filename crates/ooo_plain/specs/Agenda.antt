@@ -1,12 +1,10 @@
--- The agenda: when each process is due, with an ordered queue beside.
+-- The agenda: when each process is due, with a line of those that are beside.
 use Rattle.std.specs.Prelude.{◌≡◌, ◌≢◌, ℕ, ◌<◌, List, Option, Some, None, length, slice_set, slice_index_or}
 use Rattle.std.specs.declared.cmp.Ordering.{Ordering}
 use Rattle.std.specs.Ordering.{nat_cmp, ordering_then}
-use Rattle.std.specs.BTreeSet.{BTreeSet, contains}
 use Rattle.ooo_time.specs.declared.stamp.Stamp.{Stamp}
 use Rattle.ooo_time.specs.Stamps.{IsBefore}
 use Rattle.ooo_plain.specs.declared.agenda.Due.{Due}
-use Rattle.ooo_meaning.specs.World.{is_at}
 
 -- when process p is due, if it is
 abbrev pub due_in : List (Option Stamp) → ℕ → Option Stamp
@@ -15,10 +13,6 @@ due_in dues p = slice_index_or dues p None
 -- first the earlier stamp, then the lower process
 abbrev pub due_cmp : Due → Due → Ordering
 due_cmp a b = ordering_then (ordering_then (nat_cmp a.stamp.time.0 b.stamp.time.0) (nat_cmp a.stamp.delta b.stamp.delta)) (nat_cmp a.process b.process)
-
--- the queue has each process for the stamp at which it is due, and nothing else
-abbrev pub IsExact : List (Option Stamp) → BTreeSet Due → Type 0
-IsExact dues queue = (k : Due) → contains due_cmp queue k ≡ is_at k.stamp (due_in dues k.process)
 
 -- no process is due before a stamp
 abbrev pub AllFrom : Stamp → List (Option Stamp) → Type 0

@@ -6,9 +6,12 @@
 
 pub mod agenda;
 pub mod cycles;
+pub mod deltas;
 pub mod engine;
 mod laws;
+pub mod line;
 mod ports;
+pub mod row;
 pub mod run;
 pub mod schedule;
 pub mod starting;

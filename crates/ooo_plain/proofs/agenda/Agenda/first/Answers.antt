@@ -1,21 +1,20 @@
 use Rattle.std.proofs.Common.{sym, ◌∙◌, ap}
-use Rattle.std.specs.BTreeSet.{contains}
+use Rattle.ooo_plain.specs.Line.{is_in}
 use Rattle.ooo_meaning.specs.World.{least}
-use Rattle.ooo_plain.specs.Agenda.{due_cmp}
-use Rattle.ooo_plain.proofs.Exact.{least_is, least_none, never_due, first_due, first_within, all_from, no_queue}
+use Rattle.ooo_plain.proofs.Exact.{least_is, least_none, never_due, first_due, first_within, all_from}
 use Rattle.ooo_plain.proofs.agenda.Agenda.first.Goals as goal
 
 pub returns-in_err-first : goal.returns-in_err-first
 returns-in_err-first c =
-    let none = never_due c.self.inside.dues.items (contains due_cmp c.self.inside.queue) c.self.invariant (no_queue c.self.inside.queue c.in_err-first.ensures.variant.1) in
+    let none = never_due c.self.inside.dues.items (is_in c.self.inside.line) c.self.invariant c.in_err-first.ensures in
     c.from_residual.ensures ∙ sym (least_none c.self.inside.dues.items none) ∙ ap least c.self.view_is
 
 pub returns : goal.returns
 returns c =
-    let k = c.in_ok-first.field-0.now in
+    let k = c.in_ok-first.field-0 in
     let is = c.in_ok-first.ensures.member in
-    let lowest = c.in_ok-first.ensures.least in
+    let lowest = c.in_ok-first.ensures.lowest in
     sym (least_is c.self.inside.dues.items k.stamp k.process
-    (all_from c.self.inside.dues.items (contains due_cmp c.self.inside.queue) c.self.invariant k is lowest)
-    (first_due c.self.inside.dues.items (contains due_cmp c.self.inside.queue) c.self.invariant k is lowest)
-    (first_within c.self.inside.dues.items (contains due_cmp c.self.inside.queue) c.self.invariant k is lowest)) ∙ ap least c.self.view_is
+    (all_from c.self.inside.dues.items (is_in c.self.inside.line) c.self.invariant k is lowest)
+    (first_due c.self.inside.dues.items (is_in c.self.inside.line) c.self.invariant k is lowest)
+    (first_within c.self.inside.dues.items (is_in c.self.inside.line) c.self.invariant k is lowest)) ∙ ap least c.self.view_is

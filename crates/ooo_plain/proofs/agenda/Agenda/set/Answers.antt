@@ -1,4 +1,4 @@
-use Rattle.std.proofs.Common.{◌≡◌, None, refl, sym, ◌∙◌, ap, set}
+use Rattle.std.proofs.Common.{None, refl, sym, ◌∙◌, ap, set}
 use Rattle.std.proofs.lemmas.List.{set-get_or}
 use Rattle.ooo_plain.proofs.agenda.Agenda.set.Goals as goal
 
