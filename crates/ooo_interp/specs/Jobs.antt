@@ -7,6 +7,8 @@ use Rattle.ooo_value.specs.declared.bound.ChannelKind.TheVariants as channel
 use Rattle.ooo_value.specs.declared.values.Value.{Value}
 use Rattle.ooo_value.specs.Values.{kind_of, IsOfKind}
 use Rattle.ooo_code.specs.declared.activation.Frame.{Frame}
+use Rattle.ooo_code.specs.declared.activation.JobEnd.{JobEnd}
+use Rattle.ooo_code.specs.declared.activation.JobEnd.TheVariants as job
 use Rattle.ooo_code.specs.declared.activation.Seen.{Seen}
 use Rattle.ooo_code.specs.declared.activation.Seen.TheVariants as seen
 use Rattle.ooo_code.specs.declared.design.Design.{Design}
@@ -19,8 +21,11 @@ use Rattle.ooo_code.specs.Sound.{IsSound, signal_kind}
 use Rattle.ooo_code.specs.Touches.{Touch, Reads, Writes, ReadsSignal, HoldsReading, HoldsWriting}
 use Rattle.ooo_interp.specs.declared.job.Done.{Done}
 use Rattle.ooo_interp.specs.declared.job.Job.{Job}
+use Rattle.ooo_interp.specs.declared.processes.LentEnd.{LentEnd}
+use Rattle.ooo_interp.specs.declared.processes.LentEnd.TheVariants as lent
 use Rattle.ooo_interp.specs.declared.processes.Ran.{Ran}
 use Rattle.ooo_interp.specs.declared.processes.Start.{Start}
+use Rattle.ooo_interp.specs.Acting.{wait_of}
 use Rattle.ooo_interp.specs.Carrying.{Carried, IsAscending, listed, numbers_of, put_in}
 
 -- ---- an activation on lent parts
@@ -34,10 +39,17 @@ abbrev pub activation_of : Design → Start → Sight → Outcome Frame
 activation_of design start s =
     by_nodes design start.statements start.process (record { entry = start.entry; slots = s.slots }) (view_of start.stamp s)
 
+-- the end that is given with lent events
+abbrev pub job_end : LentEnd → JobEnd
+job_end (lent.Waits p) = job.Waits (wait_of p)
+job_end lent.Ended = job.Ended
+job_end (lent.Faulted f line) = job.Faulted f line
+job_end (lent.Limit line) = job.Limit line
+
 -- what an activation came to, with the parts after it
 abbrev pub ran_on : Ran → Sight → Outcome Frame
 ran_on ran s = record {
-  deed = record { output = ran.output.items; variables = s.variables; effects = ran.effects.items; end = ran.end };
+  deed = record { output = ran.output.items; variables = s.variables; effects = ran.effects.items; end = job_end ran.end };
   next = record { entry = ran.entry; slots = s.slots };
 }
 

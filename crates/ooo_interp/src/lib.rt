@@ -41,7 +41,7 @@ pub use job_parts::JobParts;
 pub use parts::Lent;
 pub use port::Port;
 pub use ports::Ports;
-pub use processes::{Ran, Start, run_process};
+pub use processes::{LentEnd, Ran, Start, run_process};
 pub use running::{End, run_nodes};
 pub use segments::run_segment;
 pub use whole::Whole;

@@ -49,6 +49,13 @@ impl Ports {
         Ok(Ports { items })
     }
 
+    /// Drops all ports. Their memory is used again.
+    pub fn clear(&mut self)
+        ensures { self.new ≡ [] }
+    {
+        self.items.clear();
+    }
+
     /// Whether all of its channels have lower numbers.
     pub fn is_below(&self, channel: u32) -> bool
         ensures { IsTrue result ↔ All (λ p. channel_of p < channel) self.now }

@@ -1,16 +1,16 @@
 ghost use Rattle.std.specs.Prelude.{◌≡◌, IfOk};
 ghost use Rattle.ooo_code.specs.Nodes.{Doing, Running, ends, entry_node};
-ghost use Rattle.ooo_interp.specs.Acting.{wait_of};
-ghost use Rattle.ooo_interp.specs.Jobs.{activation_of, ran_on};
+ghost use Rattle.ooo_interp.specs.Jobs.{activation_of, job_end, ran_on};
 ghost use Rattle.ooo_interp.specs.Running.{ended_by};
 
 use crate::doing::{Activation, Made, Pause, Room};
 use crate::parts::Lent;
 use crate::running::{End, run_nodes};
-use ooo_code::{Design, Effect, JobEnd, Proc, SegmentEntry, WaitOn};
+use ooo_code::{Design, Effect, Proc, SegmentEntry};
 use ooo_time::Stamp;
-use sqlite_items::{Items, at};
-use std::alloc::{AllocError, Global};
+use ooo_value::Fault;
+use sqlite_items::at;
+use std::alloc::AllocError;
 
 /// Where an activation begins: its process by its number, the entry of the segment that it runs, its stamp, and how
 /// many statements it may count.
@@ -22,15 +22,25 @@ pub struct Start {
     pub statements: u32,
 }
 
+/// How an activation ends, with events that its design lends. The last number is that of a line.
+#[derive(Debug, Drop)]
+pub enum LentEnd<'a> {
+    Waits(Pause<'a>),
+    Ended,
+    Faulted(Fault, u32),
+    /// It would count one statement more than the statement limit.
+    Limit(u32),
+}
+
 /// What an activation came to.
 #[derive(Drop)]
-pub struct Ran {
+pub struct Ran<'a> {
     /// The entry from which its process goes on.
     pub entry: SegmentEntry,
     pub output: Vec<u8>,
     /// Its effects, in order.
     pub effects: Vec<Effect>,
-    pub end: JobEnd,
+    pub end: LentEnd<'a>,
 }
 
 /// Runs an activation of a process on lent parts. A process that there isn't does nothing. Output and effects grow in
@@ -39,20 +49,19 @@ pub struct Ran {
 /// # Errors
 ///
 /// Only where memory runs out.
-pub fn run_process<L: Lent>(
-    alloc: Global,
+pub fn run_process<'a, L: Lent>(
     lent: &mut L,
-    design: &Design,
+    design: &'a Design,
     start: Start,
     room: Room,
-) -> Result<Ran, AllocError>
+) -> Result<Ran<'a>, AllocError>
     ensures does { IfOk result (λ ran.
         activation_of design.now start (L.sight lent.old) ≡ ran_on ran (L.sight lent.new)) }
     ensures kept { L.kept lent.new ≡ L.kept lent.old }
 {
     let mut made = room.begin();
     let Some(process) = at(design.processes.as_slice(), start.process as usize) else {
-        return Ok(come_to(made, start.entry, JobEnd::Ended));
+        return Ok(come_to(made, start.entry, LentEnd::Ended));
     };
     let activation = Activation {
         process,
@@ -62,16 +71,17 @@ pub fn run_process<L: Lent>(
     let first = entry_node(design, process, start.entry);
     let nodes = design.nodes.as_slice();
     let end = run_nodes(lent, &mut made, nodes, &activation, first, start.statements)?;
-    let (entry, end) = ending(alloc, start.entry, end)?;
+    let (entry, end) = ending(start.entry, end);
     Ok(come_to(made, entry, end))
 }
 
 // What an activation came to that made this.
-fn come_to(made: Made<'_>, entry: SegmentEntry, end: JobEnd) -> Ran
+#[inline(always)]
+fn come_to<'a>(made: Made<'a>, entry: SegmentEntry, end: LentEnd<'a>) -> Ran<'a>
     ensures entry { result.entry ≡ entry }
     ensures output { result.output ≡ made.entry.output }
     ensures effects { result.effects ≡ made.entry.effects }
-    ensures end { result.end ≡ end }
+    ensures end { result.end ≡ end.entry }
 {
     let Made {
         output,
@@ -100,32 +110,15 @@ fn entry_node(design: &Design, process: &Proc, entry: SegmentEntry) -> u32
 }
 
 // The entry from which a process goes on, and how its activation ended, where it began at an entry.
-fn ending(
-    alloc: Global,
-    entry: SegmentEntry,
-    end: End<'_>,
-) -> Result<(SegmentEntry, JobEnd), AllocError>
-    ensures { IfOk result (λ p. (r : Running) (d : Doing) → r.entry ≡ entry →
-        ended_by r end.entry d ≡ ends p.0 p.1 d) }
+#[inline(always)]
+fn ending<'a>(entry: SegmentEntry, end: End<'a>) -> (SegmentEntry, LentEnd<'a>)
+    ensures { (r : Running) (d : Doing) → r.entry ≡ entry →
+        ended_by r end.entry d ≡ ends result.0 (job_end result.1) d }
 {
     match end {
-        End::Waits(to, pause) => {
-            let on = wait_on(alloc, pause)?;
-            Ok((to, JobEnd::Waits(on)))
-        }
-        End::Ended => Ok((entry, JobEnd::Ended)),
-        End::Faulted(fault, line) => Ok((entry, JobEnd::Faulted(fault, line))),
-        End::Limit(line) => Ok((entry, JobEnd::Limit(line))),
+        End::Waits(to, pause) => (to, LentEnd::Waits(pause)),
+        End::Ended => (entry, LentEnd::Ended),
+        End::Faulted(fault, line) => (entry, LentEnd::Faulted(fault, line)),
+        End::Limit(line) => (entry, LentEnd::Limit(line)),
     }
-}
-
-// What is waited for, with a copy of its events.
-fn wait_on(alloc: Global, pause: Pause<'_>) -> Result<WaitOn, AllocError>
-    ensures { IfOk result (λ on. on ≡ wait_of pause.entry) }
-{
-    let events = Items::from_slice(alloc, pause.events.as_slice())?;
-    Ok(WaitOn {
-        time: pause.time,
-        events,
-    })
 }

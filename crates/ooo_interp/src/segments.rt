@@ -1,17 +1,19 @@
 ghost use Rattle.std.specs.Prelude.{◌≡◌, IfOk, All};
 ghost use Rattle.ooo_code.specs.Outcomes.{View};
-ghost use Rattle.ooo_interp.specs.Jobs.{Fits, IsFew, IsOf, IsPartOf, SeenAscend, done_on, job_on};
+ghost use Rattle.ooo_interp.specs.Acting.{wait_of};
+ghost use Rattle.ooo_interp.specs.Jobs.{Fits, IsFew, IsOf, IsPartOf, SeenAscend, done_on, job_end, job_on};
 ghost use Rattle.ooo_interp.specs.Ports.{all_shown, shown};
 
-use crate::doing::Room;
+use crate::doing::{Pause, Room};
 use crate::fifo_port::FifoPort;
 use crate::job::{Done, Job};
 use crate::job_parts::JobParts;
 use crate::port::Port;
 use crate::ports::Ports;
-use crate::processes::{Start, run_process};
+use crate::processes::{LentEnd, Start, run_process};
 use ooo_code::law::{changes_what_is_touched, reads_what_is_touched};
-use ooo_code::{Frame, Seen};
+use ooo_code::{Frame, JobEnd, Seen, WaitOn};
+use sqlite_items::Items;
 use std::alloc::{AllocError, Global};
 
 /// Runs the segment of a job: the activation of its process, on every view of all variables that the job is part of.
@@ -52,7 +54,8 @@ pub fn run_segment(alloc: Global, job: Job) -> Result<Done, AllocError>
         stamp,
         statements,
     };
-    let ran = run_process(alloc, &mut parts, &design, start, Room::new(alloc))?;
+    let ran = run_process(&mut parts, &design, start, Room::new(alloc))?;
+    let end = own_end(alloc, ran.end)?;
     Ok(Done {
         process,
         activation,
@@ -63,7 +66,33 @@ pub fn run_segment(alloc: Global, job: Job) -> Result<Done, AllocError>
         owned: parts.owned,
         effects: ran.effects,
         output: ran.output,
-        end: ran.end,
+        end,
+    })
+}
+
+// How an activation ended, with a copy of the events that it waits for.
+pub(crate) fn own_end(alloc: Global, end: LentEnd<'_>) -> Result<JobEnd, AllocError>
+    ensures { IfOk result (λ own. own ≡ job_end end.entry) }
+{
+    match end {
+        LentEnd::Waits(pause) => {
+            let on = wait_on(alloc, pause)?;
+            Ok(JobEnd::Waits(on))
+        }
+        LentEnd::Ended => Ok(JobEnd::Ended),
+        LentEnd::Faulted(fault, line) => Ok(JobEnd::Faulted(fault, line)),
+        LentEnd::Limit(line) => Ok(JobEnd::Limit(line)),
+    }
+}
+
+// What is waited for, with a copy of its events.
+fn wait_on(alloc: Global, pause: Pause<'_>) -> Result<WaitOn, AllocError>
+    ensures { IfOk result (λ on. on ≡ wait_of pause.entry) }
+{
+    let events = Items::from_slice(alloc, pause.events.as_slice())?;
+    Ok(WaitOn {
+        time: pause.time,
+        events,
     })
 }
 

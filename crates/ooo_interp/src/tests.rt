@@ -8,8 +8,11 @@ mod node_kinds;
 mod segments;
 mod waits;
 
+use crate::segments::own_end;
 use crate::{FifoPort, Port, Ports, Ran, Room, Start, Whole, run_process};
-use ooo_code::{Cells, Design, JobEnd, Node, NodeExpr, NodeKind, Proc, SegmentEntry, WaitOn};
+use ooo_code::{
+    Cells, Design, Effect, JobEnd, Node, NodeExpr, NodeKind, Proc, SegmentEntry, WaitOn,
+};
 use ooo_time::{Stamp, Time};
 use ooo_value::{Fault, Op, ProcessKind, Value};
 use sqlite_items::{Boxed, Items};
@@ -89,7 +92,7 @@ impl Code {
     }
 
     /// Runs the nodes as a thread's, from its start.
-    pub fn run(self, parts: &mut Whole, statements: u32) -> Result<Ran, AllocError> {
+    pub fn run(self, parts: &mut Whole, statements: u32) -> Result<Outcome, AllocError> {
         let alloc = self.alloc;
         let design = self.design(ProcessKind::Thread)?;
         run_from(alloc, parts, &design, SegmentEntry::Start, statements)
@@ -154,6 +157,15 @@ pub fn add_port(rt: &impl Abort, parts: &mut Whole, port: Port) -> Result<(), Al
     parts.ports.push(port)
 }
 
+/// What an activation came to, apart from its design.
+#[derive(Drop)]
+pub struct Outcome {
+    pub entry: SegmentEntry,
+    pub output: Vec<u8>,
+    pub effects: Vec<Effect>,
+    pub end: JobEnd,
+}
+
 /// Runs the process of a design from an entry, at 10 ns.
 pub fn run_from(
     alloc: Global,
@@ -161,9 +173,20 @@ pub fn run_from(
     design: &Design,
     entry: SegmentEntry,
     statements: u32,
-) -> Result<Ran, AllocError> {
+) -> Result<Outcome, AllocError> {
     let start = start_from(entry, statements);
-    run_process(alloc, parts, design, start, Room::new(alloc))
+    let Ran {
+        entry,
+        output,
+        effects,
+        end,
+    } = run_process(parts, design, start, Room::new(alloc))?;
+    Ok(Outcome {
+        entry,
+        output,
+        effects,
+        end: own_end(alloc, end)?,
+    })
 }
 
 /// The first process from an entry, at 10 ns.
@@ -180,8 +203,8 @@ pub fn start_from(entry: SegmentEntry, statements: u32) -> Start {
 }
 
 /// Whether an activation printed this text.
-pub fn printed(ran: &Ran, text: &str) -> bool {
-    ran.output.as_slice() == text.as_bytes()
+pub fn printed(output: &[u8], text: &str) -> bool {
+    output == text.as_bytes()
 }
 
 /// Whether an activation's process is over.

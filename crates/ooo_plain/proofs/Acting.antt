@@ -20,7 +20,7 @@ use Rattle.ooo_code.specs.Sound.{IsSound, FitsProcess}
 use Rattle.ooo_code.specs.Touches.{Touch}
 use Rattle.ooo_interp.specs.declared.port.Port.{Port}
 use Rattle.ooo_interp.specs.declared.processes.Ran.{Ran}
-use Rattle.ooo_interp.specs.Jobs.{activation_of, ran_on}
+use Rattle.ooo_interp.specs.Jobs.{activation_of, job_end, ran_on}
 use Rattle.ooo_interp.specs.Ports.{all_shown}
 use Rattle.ooo_meaning.specs.World.{World, view_of}
 use Rattle.ooo_channels.specs.Operations.{Operations}
@@ -80,43 +80,45 @@ module _ (laws : Laws) (design : Design) (sound : IsSound design) (statements p 
         (cases_lt c (length design.channels))
 
     -- what is lent is what the process sees
-    pub lent_is : (x y : Process) → x ≡ get_or old.processes.items p x → y ≡ get_or old.processes.items p y → (names : Vec ℕ) → names ≡ get_or old.names.items p names → (ports : List Port) → all_shown ports ≡ all_open w names.items
-        → outcome_at design statements p (frames_of old) w ≡ activation_of design (record { process = p; entry = x.entry; stamp = old.stamp; statements = statements }) (record { slots = y.slots.items; variables = old.variables.items; seen = all_shown ports })
-    lent_is x y is is' names named ports shows =
+    pub lent_is : (x : Process) → x ≡ get_or old.processes.items p x → (names : Vec ℕ) → names ≡ get_or old.names.items p names → (ports : List Port) → all_shown ports ≡ all_open w names.items
+        → outcome_at design statements p (frames_of old) w ≡ activation_of design (record { process = p; entry = x.entry; stamp = old.stamp; statements = statements }) (record { slots = x.slots.items; variables = old.parts.variables.items; seen = all_shown ports })
+    lent_is x is names named ports shows =
         let frame : Frame = frame_of x in
         let same : get_or (frames_of old) p no_frame ≡ frame = frame_at x is in
-        let other : frame_of x ≡ frame_of y = sym (frame_at x is) ∙ frame_at y is' in
         let fits_entry = m.stands.entries p process frame at_p (slice_get-get_or (frames_of old) p no_frame (let a = m.stands.frames_count in omega (arith, a, lt)) ∙ ap Some same) in
         let own = entry_own design process fits frame.entry fits_entry in
         let opens = same_activation design sound p process at_p fits frame own w m.stands.ends names.items (missing names.items (known names named) frame.entry own) statements
         (λ a b agree. laws.reads design statements p process frame a b at_p agree) (λ a. laws.changes design statements p process frame a at_p) in
         ap (λ f. by_nodes design statements p f (view_of p w)) same ∙ opens
-        ∙ view_same w.stamp old.stamp m.stamp w.variables old.variables.items m.variables (all_open w names.items) (all_shown ports) (sym shows) frame (record { entry = x.entry; slots = y.slots.items }) (frame_same x y other)
+        ∙ view_same w.stamp old.stamp m.stamp w.variables old.parts.variables.items m.variables (all_open w names.items) (all_shown ports) (sym shows) frame frame refl
       where
-        frame_same : (x y : Process) → frame_of x ≡ frame_of y → frame_of x ≡ (let f : Frame = record { entry = x.entry; slots = y.slots.items } in f)
-        frame_same x y e = ap {A = Frame} (λ f. let g : Frame = record { entry = x.entry; slots = f.slots } in g) e
-
         view_same : (s t : Stamp) → s ≡ t → (v u : List (List Value)) → v ≡ u → (a b : List Seen) → a ≡ b → (f g : Frame) → f ≡ g
             → by_nodes design statements p f (record { stamp = s; variables = v; seen = a }) ≡ by_nodes design statements p g (record { stamp = t; variables = u; seen = b })
         view_same s t e v u h a b k f g l = rw (e, h, k, l) refl
 
   -- ---- the engine after it
 
-  module _ (x y z : Process) (is : x ≡ get_or old.processes.items p x) (is' : y ≡ get_or old.processes.items p y) (names : Vec ℕ) (named : names ≡ get_or old.names.items p names) (ports : List Port)
+  module _ (x z : Process) (is : x ≡ get_or old.processes.items p x) (names : Vec ℕ) (named : names ≡ get_or old.names.items p names) (ports : List Port)
       (shows : (w : World) (ops : Operations) → IsSeenIn design old.bank old.stamp ops w → all_shown ports ≡ all_open w names.items)
-      (slots after_slots : Vec Value) (slots_is : slots ≡ y.slots) (variables after_variables : Vec (List Value)) (variables_is : variables ≡ old.variables) (after_ports : List Port) (ran : Ran)
-      (does : activation_of design (record { process = p; entry = x.entry; stamp = old.stamp; statements = statements }) (record { slots = slots.items; variables = variables.items; seen = all_shown ports })
+      (slots after_slots left : Vec Value) (slots_is : slots ≡ x.slots) (left_is : left ≡ after_slots) (after_variables : Vec (List Value)) (after_ports : List Port) (ran : Ran)
+      (does : activation_of design (record { process = p; entry = x.entry; stamp = old.stamp; statements = statements }) (record { slots = slots.items; variables = old.parts.variables.items; seen = all_shown ports })
       ≡ ran_on ran (record { slots = after_slots.items; variables = after_variables.items; seen = all_shown after_ports }))
-      (new : Engine) (rest : new ≡ record old { processes = new.processes; variables = new.variables; room = new.room })
-      (items : new.processes.items ≡ set (set old.processes.items p z) p (record { entry = ran.entry; slots = after_slots })) (variables_new : new.variables ≡ after_variables) where
+      (new : Engine) (rest : new ≡ record old { processes = new.processes; parts = new.parts; room = new.room })
+      (items : new.processes.items ≡ set (set old.processes.items p z) p (record { entry = ran.entry; slots = left })) (variables_new : new.parts.variables ≡ after_variables) where
+    left_by : Vec Value → Process
+    left_by v = record { entry = ran.entry; slots = v }
+
+    items' : new.processes.items ≡ set (set old.processes.items p z) p (record { entry = ran.entry; slots = after_slots })
+    unfolding left_by
+    items' = items ∙ ap (λ v. set (set old.processes.items p z) p (left_by v)) left_is
+
     pub acts : Acts design statements p old new ran
     acts = record {
       rest = rest;
       frame = record { entry = ran.entry; slots = after_slots.items };
-      frames = ap (map frame_of) (items ∙ set-set old.processes.items p z (record { entry = ran.entry; slots = after_slots })) ∙ map-set frame_of old.processes.items p (record { entry = ran.entry; slots = after_slots });
+      frames = ap (map frame_of) (items' ∙ set-set old.processes.items p z (record { entry = ran.entry; slots = after_slots })) ∙ map-set frame_of old.processes.items p (record { entry = ran.entry; slots = after_slots });
       does = λ w ops m.
-          lent_is w ops m x y is is' names named ports (shows w ops (seen_in design old ops w m))
-          ∙ ap (λ vs. activation_of design (record { process = p; entry = x.entry; stamp = old.stamp; statements = statements }) (record { slots = y.slots.items; variables = vs; seen = all_shown ports })) (ap (λ v. v.items) (sym variables_is))
-          ∙ ap (λ ss. activation_of design (record { process = p; entry = x.entry; stamp = old.stamp; statements = statements }) (record { slots = ss; variables = variables.items; seen = all_shown ports })) (ap (λ v. v.items) (sym slots_is))
-          ∙ does ∙ ap (λ vs. let o : Outcome Frame = record { deed = record { output = ran.output.items; variables = vs; effects = ran.effects.items; end = ran.end }; next = record { entry = ran.entry; slots = after_slots.items } } in o) (ap (λ v. v.items) (sym variables_new));
+          lent_is w ops m x is names named ports (shows w ops (seen_in design old ops w m))
+          ∙ ap (λ ss. activation_of design (record { process = p; entry = x.entry; stamp = old.stamp; statements = statements }) (record { slots = ss; variables = old.parts.variables.items; seen = all_shown ports })) (ap (λ v. v.items) (sym slots_is))
+          ∙ does ∙ ap (λ vs. let o : Outcome Frame = record { deed = record { output = ran.output.items; variables = vs; effects = ran.effects.items; end = job_end ran.end }; next = record { entry = ran.entry; slots = after_slots.items } } in o) (ap (λ v. v.items) (sym variables_new));
     }

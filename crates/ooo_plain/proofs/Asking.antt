@@ -15,7 +15,7 @@ use Rattle.ooo_channels.specs.Bank.{BankState, IsBankAfter}
 use Rattle.ooo_plain.specs.declared.schedule.Held.{Held}
 use Rattle.ooo_plain.specs.declared.schedule.Schedule.{Schedule}
 use Rattle.ooo_plain.specs.Agenda.{due_in}
-use Rattle.ooo_plain.specs.Schedule.{nothing_held, held_at, waits_on, waiting_on, KnowsWaiters, IsLeastOf, MayAskFor, MayAskAll, IsAsked, RefreshedOne, AskedAnew, Touched, TouchedSoFar}
+use Rattle.ooo_plain.specs.Schedule.{nothing_held, held_at, alone, waits_on, waiting_on, KnowsWaiters, IsLeastOf, MayAskFor, MayAskAll, IsAsked, RefreshedOne, AskedAnew, Touched, TouchedSoFar, TouchedOthers}
 use Rattle.ooo_plain.proofs.Least.{neither}
 
 -- there is one first stamp
@@ -36,6 +36,26 @@ least_more bank at events left found new r pos le is asked e ops b by first firs
     let rest : found ≡ least (map first (drop left events)) = is ops b by first (λ k d lt. all (suc k) d (omega (arith, lt))) in
     e ∙ ap (λ x. sooner x found) one ∙ ap (sooner (first e0)) rest ∙ ap (λ i. least (map first (e0 ∷ drop i events))) (sym same) ∙ ap (λ xs. least (map first xs)) (sym cons)
 
+-- ---- one event alone
+
+single_least : (x : Option Stamp) → x ≡ sooner x None
+single_least None = refl
+single_least (Some s) = refl
+
+pub one_is : (xs : List ℕ) → length xs ≡ 1 → get_or xs 0 0 ∷ [] ≡ xs
+one_is [] one = absurd (omega (arith, one))
+one_is (x ∷ []) one = refl
+one_is (x ∷ (y ∷ ys)) one = absurd (omega (arith, one))
+
+pub asked_alone : (bank : BankState) (now : Stamp) (e : ℕ) (r : Option Stamp) → ((ops : Operations) → IsBankAfter bank ops → ¬ IsBefore now ops.below → IsFirstAfter (FiresAt ops e) now r) → IsAsked bank now (alone e) r
+asked_alone bank now e r is ops b by first firsts = first_same (FiresAt ops e) now r (first e) (is ops b by) (firsts 0 0 (omega arith)) ∙ single_least (first e)
+
+pub least_of_one : (bank : BankState) (now : Stamp) (events : List ℕ) (r : Option Stamp) → length events ≡ 1
+    → ((ops : Operations) → IsBankAfter bank ops → ¬ IsBefore now ops.below → IsFirstAfter (FiresAt ops (get_or events 0 0)) now r) → IsLeastOf bank now events r
+least_of_one bank now [] r one is ops b by first firsts = absurd (omega (arith, one))
+least_of_one bank now (e ∷ []) r one is ops b by first firsts = first_same (FiresAt ops e) now r (first e) (is ops b by) (firsts 0 0 (omega arith)) ∙ single_least (first e)
+least_of_one bank now (e ∷ (f ∷ fs)) r one is ops b by first firsts = absurd (omega (arith, one))
+
 -- ---- one process among all
 
 pub held_is : (xs : List Held) (q : ℕ) (x : Held) → q < length xs → x ≡ get_or xs q x → held_at xs q ≡ x
@@ -46,6 +66,22 @@ may_ask bank s q x m lt is = record {
   ops = m.ops;
   bank_is = m.bank_is;
   known = subst (λ h. All (HasEventAt m.ops) h.events) (held_is s.held.items q x lt is) (m.known q);
+}
+
+pub may_ask_alone : (bank : BankState) (s : Schedule) (q e : ℕ) → MayAskAll bank s → held_at s.held.items q ≡ alone e → MayAskFor bank (e ∷ [])
+may_ask_alone bank s q e m is = record {
+  ops = m.ops;
+  bank_is = m.bank_is;
+  known = subst (λ h. All (HasEventAt m.ops) h.events) is (m.known q);
+}
+
+pub asked_so : (now : Stamp) (s : Schedule) (a : List (Option Stamp)) (q : ℕ) (due : Option Stamp) → a ≡ slice_set s.agenda q due → ¬ (due_in s.agenda q ≡ Some now)
+    → (bank : BankState) → IsAsked bank now (held_at s.held.items q) due → RefreshedOne q bank now s (record s { agenda = a })
+asked_so now s a q due same not bank asked = record {
+  rest = refl;
+  due = due;
+  agenda = same;
+  asked = inl (not, asked);
 }
 
 pub asked_one : (bank : BankState) (now : Stamp) (s : Schedule) (a : List (Option Stamp)) (q : ℕ) (x : Held) (due : Option Stamp) → q < length s.held.items → x ≡ get_or s.held.items q x → a ≡ slice_set s.agenda q due
@@ -116,6 +152,26 @@ module _ (bank : BankState) (now : Stamp) (i n q : ℕ) (old mid new : Schedule)
           | inl a ↦ inl (subst (AskedAnew bank now (held_at old.held.items p) (due_in old.agenda p)) (sym same) a)
           | inr a ↦ inr (same ∙ a.0, λ c. ⊎_elim (λ x. a.1 x) (λ x. ne (x ∙ sym is)) (take_contains (waiting_on old i) n p lt c))
         ]
+
+-- the next one waits on the event alone
+pub touched_others : (bank : BankState) (now : Stamp) (e n q : ℕ) (old mid : Schedule) → TouchedSoFar e n bank now old mid → n < length (waiting_on old e) → MayAskAll bank old → held_at mid.held.items q ≡ alone e → TouchedOthers e n bank now old mid
+touched_others bank now e n q old mid h lt may is = record {
+  so_far = h;
+  within = omega (arith, lt);
+  known = λ more. may_ask_alone bank old q e may (ap {A = Schedule} (λ s. held_at s.held.items q) (sym h.rest) ∙ is);
+}
+
+-- all were asked
+pub touched_every : (bank : BankState) (now : Stamp) (e n count : ℕ) (old mid : Schedule) → TouchedSoFar e n bank now old mid → n ≡ count → count ≡ length (waiting_on old e) → TouchedOthers e count bank now old mid
+touched_every bank now e n count old mid h same all = record {
+  so_far = subst (λ i. TouchedSoFar e i bank now old mid) same h;
+  within = omega (arith, all);
+  known = λ more. absurd (omega (arith, all, more));
+}
+
+-- how many stand in a list of lists
+pub count_in : {A : Type 0} (f : A → List ℕ) (ws : List A) (e : ℕ) (v : A) → e < length ws → v ≡ get_or ws e v → length (f v) ≡ length (get_or (map f ws) e [])
+count_in f ws e v lt is = ap length (ap f is ∙ sym (get_or-map f ws e v [] lt))
 
 pub touched_all : (bank : BankState) (now : Stamp) (i n : ℕ) (old new : Schedule) → KnowsWaiters old → length (waiting_on old i) ≤ n → TouchedSoFar i n bank now old new → Touched (i ∷ []) bank now old new
 touched_all bank now i n old new knows le h = record {

@@ -223,7 +223,7 @@ planned0 design s h = record {
 }
 
 pub engine_starts : (laws : Laws) (design : Design) (sound : IsSound design) (e : Engine) → AreBegun design (length design.processes) e.schedule → IsBankAfter e.bank (first_operations design) → AreFirstProcesses design.processes e.processes.items
-    → AreNamesOf design (length design.processes) (lists_of e.names.items) → AreNotices design (lists_of e.notices.items) → e.variables.items ≡ first_cells design.variables → e.output.items ≡ [] → e.stamp ≡ zero_stamp → e.last ≡ zero_stamp → e.activations ≡ 0 → e.stopped ≡ false → Starts design e
+    → AreNamesOf design (length design.processes) (lists_of e.names.items) → AreNotices design (lists_of e.notices.items) → e.parts.variables.items ≡ first_cells design.variables → e.output.items ≡ [] → e.stamp ≡ zero_stamp → e.last ≡ zero_stamp → e.activations ≡ 0 → e.stopped ≡ false → Starts design e
 engine_starts laws design sound e begun bank processes names notices variables output stamp last activations stopped = record {
   mirrors = record {
     of = record { channels = refl; events = refl };

@@ -1,5 +1,5 @@
 -- Lists of those that may wait on an event.
-use Rattle.std.proofs.Common.{◌≡◌, ◌≢◌, ℕ, ◌<◌, ◌≤◌, ◌+◌, ◌==◌, true, inl, inr, arith, List, [], ◌∷◌, ◌++◌, refl, sym, subst, ap, ◌∙◌, get_or, map, set, length, take, ⊎_elim, eq-eqb}
+use Rattle.std.proofs.Common.{◌≡◌, ◌≢◌, ℕ, ◌<◌, ◌≤◌, ◌+◌, ◌==◌, inl, inr, arith, List, [], ◌∷◌, ◌++◌, refl, sym, subst, ap, ◌∙◌, get_or, map, set, length, take, ⊎_elim, eq-eqb}
 use Rattle.std.proofs.lemmas.List.{length-set, length-map, take_more, take_all, get_or-set_same, get_or-set_other}
 use Rattle.std.proofs.lemmas.List.Elements.{All-append, All-cons, All-nil, Contains-append_left, Contains-append_right, Contains-append_cases}
 use Rattle.std.proofs.lemmas.Bool.{cases_eq}

@@ -19,6 +19,7 @@ use Rattle.ooo_code.specs.Outcomes.{Deed, Outcome}
 use Rattle.ooo_code.specs.Sound.{IsSound}
 use Rattle.ooo_history.specs.declared.run.End.{End}
 use Rattle.ooo_interp.specs.declared.processes.Ran.{Ran}
+use Rattle.ooo_interp.specs.Jobs.{job_end}
 use Rattle.ooo_meaning.specs.World.{World, wait_at, never, channel_at, no_channel, view_of, after_deed, wait_after, broken_by, place_of}
 use Rattle.ooo_channels.specs.Operations.{Operations, after_effects}
 use Rattle.ooo_channels.specs.Cycles.{channel_in, readable, writable}
@@ -93,8 +94,12 @@ module _ (laws : Laws) (design : Design) (sound : IsSound design) (statements p 
   abbrev pub proc : Proc
   proc = process laws design sound statements p old lt
 
+  -- how it ended
+  abbrev pub end1 : JobEnd
+  end1 = job_end ran.end
+
   abbrev pub did : Outcome Frame
-  did = record { deed = record { output = ran.output.items; variables = e1.variables.items; effects = ran.effects.items; end = ran.end }; next = acts.frame }
+  did = record { deed = record { output = ran.output.items; variables = e1.parts.variables.items; effects = ran.effects.items; end = end1 }; next = acts.frame }
 
   did_is : o ≡ did
   did_is = acts.does w ops m
@@ -108,7 +113,7 @@ module _ (laws : Laws) (design : Design) (sound : IsSound design) (statements p 
   effects_is : o.deed.effects ≡ ran.effects.items
   effects_is = ap (λ x. x.deed.effects) did_is
 
-  end_is : o.deed.end ≡ ran.end
+  end_is : o.deed.end ≡ end1
   end_is = ap (λ x. x.deed.end) did_is
 
   stamp1 : e1.stamp ≡ w.stamp
@@ -147,7 +152,7 @@ module _ (laws : Laws) (design : Design) (sound : IsSound design) (statements p 
     lists2 : (f : Effect) → HasLists old f → HasLists e2 f
     lists2 f h = subst (λ e. HasLists e f) (sym applied.rest) (go1 f (subst (λ e. HasLists e f) (sym acts.rest) (go0 f h)))
       where
-        go0 : (f : Effect) → HasLists old f → HasLists (record old { processes = e1.processes; variables = e1.variables; room = e1.room }) f
+        go0 : (f : Effect) → HasLists old f → HasLists (record old { processes = e1.processes; parts = e1.parts; room = e1.room }) f
         go0 (effect.Request c v) h = h
         go0 (effect.Put c v) h = h
         go0 (effect.Take c) h = h
@@ -228,20 +233,20 @@ module _ (laws : Laws) (design : Design) (sound : IsSound design) (statements p 
       own_same s (job.Faulted f line) = refl
       own_same s (job.Limit line) = refl
 
-      known_end : All (λ e. e < length design.events) (wait_after w.stamp ran.end).events
-      known_end = own_known ran.end (subst (FitsEnd design) end_is fitting.end)
+      known_end : All (λ e. e < length design.events) (wait_after w.stamp end1).events
+      known_end = own_known end1 (subst (FitsEnd design) end_is fitting.end)
 
       within3 : p < length e3.schedule.held.items
       within3 = let a = but3.knows.count in let b = but3.count in let c = ap length (waits_after p w o.deed) in let d = length-set w.waits p (wait_after w.stamp o.deed.end) in let e = m.stands.waits_count in omega (arith, a, b, c, d, e, lt)
 
-      pub may_close : MayClose design e5 p ran.end
+      pub may_close : MayClose design e5 p end1
       may_close = record {
         within = subst (λ s. p < length s.held.items) (sym schedule5) within3;
         knows = subst KnowsWaiters (sym schedule5) but3.knows;
         asked = record {
-          asked = record { ops = ops2; bank_is = bank_is5; known = subst (All (HasEventAt ops2)) (sym (own_same e5.stamp ran.end)) (have_events design sound ops2 of2 (length design.events) refl (wait_after w.stamp ran.end).events known_end) };
-          within = subst (All (λ e. e < length e5.schedule.waiters.items)) (sym (own_same e5.stamp ran.end))
-              (subst (λ n. All (λ e. e < n) (wait_after w.stamp ran.end).events) (sym (ap {A = Schedule} (λ s. length s.waiters.items) schedule5 ∙ lists3)) known_end);
+          asked = record { ops = ops2; bank_is = bank_is5; known = subst (All (HasEventAt ops2)) (sym (own_same e5.stamp end1)) (have_events design sound ops2 of2 (length design.events) refl (wait_after w.stamp end1).events known_end) };
+          within = subst (All (λ e. e < length e5.schedule.waiters.items)) (sym (own_same e5.stamp end1))
+              (subst (λ n. All (λ e. e < n) (wait_after w.stamp end1).events) (sym (ap {A = Schedule} (λ s. length s.waiters.items) schedule5 ∙ lists3)) known_end);
         };
         countable = subst IsCountableStamp (sym (stamp5 ∙ m.stamp)) m.countable;
         fits = subst (FitsEnd design) end_is fitting.end;
@@ -257,10 +262,10 @@ module _ (laws : Laws) (design : Design) (sound : IsSound design) (statements p 
           ap {A = Engine} frames_of room5 ∙ ap {A = Engine} frames_of noted.rest ∙ ap {A = Engine} frames_of refreshed.rest ∙ ap {A = Engine} frames_of applied.rest
           ∙ acts.frames ∙ ap (slice_set (frames_of old) p) (sym (ap (λ x. x.next) did_is))
 
-      variables5 : world.variables ≡ e5.variables.items
+      variables5 : world.variables ≡ e5.parts.variables.items
       variables5 =
           variables_after p w o.deed ∙ ap (λ x. x.deed.variables) did_is
-          ∙ sym (ap {A = Engine} (λ e. e.variables.items) room5 ∙ ap {A = Engine} (λ e. e.variables.items) noted.rest ∙ ap {A = Engine} (λ e. e.variables.items) refreshed.rest ∙ ap {A = Engine} (λ e. e.variables.items) applied.rest)
+          ∙ sym (ap {A = Engine} (λ e. e.parts.variables.items) room5 ∙ ap {A = Engine} (λ e. e.parts.variables.items) noted.rest ∙ ap {A = Engine} (λ e. e.parts.variables.items) refreshed.rest ∙ ap {A = Engine} (λ e. e.parts.variables.items) applied.rest)
 
       output5 : e5.output.items ≡ old.output.items ++ ran.output.items
       output5 = ap {A = Engine} (λ e. e.output.items) room5 ∙ noted.output_is ∙ ap (λ xs. xs ++ ran.output.items) (ap {A = Engine} (λ e. e.output.items) refreshed.rest ∙ ap {A = Engine} (λ e. e.output.items) applied.rest ∙ ap {A = Engine} (λ e. e.output.items) acts.rest)
@@ -326,10 +331,10 @@ module _ (laws : Laws) (design : Design) (sound : IsSound design) (statements p 
       stamp_is : world.stamp ≡ e5.stamp
       stamp_is = stamp_after p w o.deed ∙ sym stamp5
 
-      broken_is : (e : Option End) → broken_by (place_of e5.stamp p) ran.end ≡ e → world.broken ≡ e
+      broken_is : (e : Option End) → broken_by (place_of e5.stamp p) end1 ≡ e → world.broken ≡ e
       broken_is e h = broken_after p w o.deed ∙ ap (λ s. broken_by (place_of s p) o.deed.end) (sym stamp5) ∙ ap (broken_by (place_of e5.stamp p)) end_is ∙ h
 
-      mirrors5 : broken_by (place_of e5.stamp p) ran.end ≡ None → Mirrors design e5 ops2 world
+      mirrors5 : broken_by (place_of e5.stamp p) end1 ≡ None → Mirrors design e5 ops2 world
       mirrors5 whole = record {
         of = of2;
         agrees = agrees' laws design sound p w ops m.of m.agrees m.timely o.deed fitting.may;
@@ -368,10 +373,10 @@ module _ (laws : Laws) (design : Design) (sound : IsSound design) (statements p 
         lists = n;
       }
 
-      held_same : held_after e5.stamp ran.end ≡ held_of (wait_after w.stamp o.deed.end)
-      held_same = ap (λ s. held_after s ran.end) stamp5 ∙ ap (held_after w.stamp) (sym end_is)
+      held_same : held_after e5.stamp end1 ≡ held_of (wait_after w.stamp o.deed.end)
+      held_same = ap (λ s. held_after s end1) stamp5 ∙ ap (held_after w.stamp) (sym end_is)
 
-      turns : (new : Engine) → Rests p ran.end e5 new → Turns design new world
+      turns : (new : Engine) → Rests p end1 e5 new → Turns design new world
       turns new r = record {
         ops = ops2;
         mirrors = subst (λ e. Mirrors design e ops2 world) (sym r.rest) (scheduled e5 new.schedule (r.waits.count ∙ ap {A = Schedule} (λ s. length s.waiters.items) schedule5 ∙ lists3) (mirrors5 r.whole));
@@ -380,12 +385,12 @@ module _ (laws : Laws) (design : Design) (sound : IsSound design) (statements p 
             (let a = m.stands.waits_count in omega (arith, a, lt)) lists3
             (subst (λ b. Waits p (held_of (wait_after w.stamp o.deed.end)) b w.stamp e3.schedule new.schedule) bank5
             (subst (λ h. Waits p h e5.bank w.stamp e3.schedule new.schedule) held_same
-            (subst (λ s. Waits p (held_after e5.stamp ran.end) e5.bank s e3.schedule new.schedule) stamp5
-            (subst (λ s. Waits p (held_after e5.stamp ran.end) e5.bank e5.stamp s new.schedule) schedule5 r.waits))))
+            (subst (λ s. Waits p (held_after e5.stamp end1) e5.bank s e3.schedule new.schedule) stamp5
+            (subst (λ s. Waits p (held_after e5.stamp end1) e5.bank e5.stamp s new.schedule) schedule5 r.waits))))
             (own_idle o.deed.end);
       }
 
-      breaks : (e : End) (new : Engine) → Stays p ran.end e e5 new → Breaks design new e world
+      breaks : (e : End) (new : Engine) → Stays p end1 e e5 new → Breaks design new e world
       breaks e new s = subst (λ x. Breaks design x e world) (sym s.rest) (record {
         ops = ops2;
         of = of2;
@@ -397,13 +402,13 @@ module _ (laws : Laws) (design : Design) (sound : IsSound design) (statements p 
         broken = broken_is (Some e) s.broken;
       })
 
-      turned_by : (x : Option End) (new : Engine) → Closed p ran.end x e5 new → TurnsTo design new x world
+      turned_by : (x : Option End) (new : Engine) → Closed p end1 x e5 new → TurnsTo design new x world
       turned_by None new c = turns new c
       turned_by (Some e) new c = breaks e new c
 
-      frames_by : (x : Option End) (new : Engine) → Closed p ran.end x e5 new → frames_of new ≡ frames_of e5
+      frames_by : (x : Option End) (new : Engine) → Closed p end1 x e5 new → frames_of new ≡ frames_of e5
       frames_by None new c = ap {A = Engine} frames_of c.rest
       frames_by (Some e) new c = ap {A = Engine} frames_of c.rest
 
-      pub turned : (x : Option End) (new : Engine) → Closed p ran.end x e5 new → Turned design statements p x old new w
+      pub turned : (x : Option End) (new : Engine) → Closed p end1 x e5 new → Turned design statements p x old new w
       turned x new c = record { comes = turned_by x new c; frames = frames_by x new c ∙ frames5 }

@@ -17,6 +17,7 @@ use Rattle.ooo_code.specs.Segments.{nodes_of}
 use Rattle.ooo_code.specs.Outcomes.{Outcome}
 use Rattle.ooo_history.specs.declared.run.End.{End}
 use Rattle.ooo_interp.specs.declared.processes.Ran.{Ran}
+use Rattle.ooo_interp.specs.Jobs.{job_end}
 use Rattle.ooo_meaning.specs.World.{World, Made, wait_at, view_of, last_stamp, after_deed, wait_after, broken_by, place_of}
 use Rattle.ooo_channels.specs.Operations.{Operations, after_effects}
 use Rattle.ooo_channels.specs.Calls.{channel_of}
@@ -107,7 +108,7 @@ pub record Mirrors (design : Design) (e : Engine) (ops : Operations) (w : World)
   pub bank : IsBankAfter e.bank ops
   pub stamp : w.stamp ≡ e.stamp
   pub countable : IsCountableStamp e.stamp
-  pub variables : w.variables ≡ e.variables.items
+  pub variables : w.variables ≡ e.parts.variables.items
   pub prints : Prints e w
   pub stopped : w.stopped ≡ e.stopped
   pub whole : w.broken ≡ None
@@ -127,10 +128,10 @@ pub record MayAct (design : Design) (e : Engine) (p : ℕ) : Type 0 where
 
 -- process p ran from where it was
 pub record Acts (design : Design) (statements p : ℕ) (old new : Engine) (ran : Ran) : Type 0 where
-  pub rest : new ≡ record old { processes = new.processes; variables = new.variables; room = new.room }
+  pub rest : new ≡ record old { processes = new.processes; parts = new.parts; room = new.room }
   pub frame : Frame
   pub frames : frames_of new ≡ slice_set (frames_of old) p frame
-  pub does : (w : World) (ops : Operations) → Mirrors design old ops w → outcome_at design statements p (frames_of old) w ≡ record { deed = record { output = ran.output.items; variables = new.variables.items; effects = ran.effects.items; end = ran.end }; next = frame }
+  pub does : (w : World) (ops : Operations) → Mirrors design old ops w → outcome_at design statements p (frames_of old) w ≡ record { deed = record { output = ran.output.items; variables = new.parts.variables.items; effects = ran.effects.items; end = job_end ran.end }; next = frame }
 
 -- the bank's operations, after which these effects may be applied
 pub record MayApply (e : Engine) (effects : List Effect) : Type 0 where

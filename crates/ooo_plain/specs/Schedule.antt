@@ -1,5 +1,5 @@
 -- The schedule: when each process is due, by what it waits for.
-use Rattle.std.specs.Prelude.{◌≡◌, ℕ, ◌<◌, ◌==◌, ◌⊎◌, Bool, true, false, List, [], Option, Some, None, map, length, replicate, slice_index_or, slice_set, take, All, Contains}
+use Rattle.std.specs.Prelude.{◌≡◌, ℕ, ◌<◌, ◌≤◌, ◌==◌, ◌⊎◌, Bool, true, false, List, [], ◌∷◌, Option, Some, None, map, length, replicate, slice_index_or, slice_set, take, All, Contains}
 use Rattle.std.specs.List.{list_any}
 use Rattle.std.specs.Global.{Vec}
 use Rattle.ooo_time.specs.declared.stamp.Stamp.{Stamp}
@@ -19,6 +19,14 @@ use Rattle.ooo_plain.specs.Agenda.{due_in}
 -- a process that waits for nothing
 abbrev pub nothing_held : Held
 nothing_held = record { events = []; timeout = None }
+
+-- these events, and a time-out
+abbrev pub held_for : List ℕ → Option Stamp → Held
+held_for events timeout = record { events = events; timeout = timeout }
+
+-- event e alone, without a time-out
+abbrev pub alone : ℕ → Held
+alone e = held_for (e ∷ []) None
 
 -- what process p waits for; a process that there isn't waits for nothing
 abbrev pub held_at : List Held → ℕ → Held
@@ -101,6 +109,12 @@ pub record Joined (p : ℕ) (events : List ℕ) (old new : Schedule) : Type 0 wh
   pub added : (i : ℕ) → Contains events i → Contains (waiting_on new i) p
   pub within : (n : ℕ) → p < n → ((i : ℕ) → All (λ q. q < n) (waiting_on old i)) → (i : ℕ) → All (λ q. q < n) (waiting_on new i)
 
+-- a process waits on these events from now on, and stands among those that may
+pub record Listens (p : ℕ) (events : List ℕ) (old new : Schedule) : Type 0 where
+  pub rest : new ≡ record old { held = new.held; waiters = new.waiters }
+  pub joined : Joined p events old (record old { waiters = new.waiters })
+  pub held : new.held.items ≡ slice_set old.held.items p (held_for events (held_at old.held.items p).timeout)
+
 -- a process waits so from now on, and is due when the bank says
 pub record Waits (p : ℕ) (h : Held) (bank : BankState) (now : Stamp) (old new : Schedule) : Type 0 where
   pub held : new.held.items ≡ slice_set old.held.items p h
@@ -132,3 +146,9 @@ pub record TouchedSoFar (e n : ℕ) (bank : BankState) (now : Stamp) (old new : 
   pub rest : new ≡ record old { agenda = new.agenda }
   pub count : length new.agenda ≡ length old.agenda
   pub each : (p : ℕ) → p < length old.agenda → AskedAnew bank now (held_at old.held.items p) (due_in old.agenda p) (due_in new.agenda p) ⊎ ((due_in new.agenda p ≡ due_in old.agenda p) × ¬ Contains (take n (waiting_on old e)) p)
+
+-- the first n that may wait on an event were; where there are more, the bank has the event
+pub record TouchedOthers (e n : ℕ) (bank : BankState) (now : Stamp) (old new : Schedule) : Type 0 where
+  pub so_far : TouchedSoFar e n bank now old new
+  pub within : n ≤ length (waiting_on old e)
+  pub known : n < length (waiting_on old e) → MayAskFor bank (e ∷ [])

@@ -5,6 +5,7 @@ ghost use Rattle.ooo_events.specs.Slots.{due_of};
 ghost use Rattle.ooo_code.specs.declared.design.Design.{Design as DesignSpec};
 ghost use Rattle.ooo_code.specs.Sound.{IsSound};
 ghost use Rattle.ooo_channels.specs.Conditions.{IsCountableStamp};
+ghost use Rattle.ooo_interp.specs.Jobs.{job_end};
 ghost use Rattle.ooo_meaning.specs.World.{timeout_of};
 ghost use Rattle.ooo_channels.specs.Operations.{Operations};
 ghost use Rattle.ooo_meaning.specs.World.{World};
@@ -13,14 +14,13 @@ ghost use Rattle.ooo_plain.specs.Tracking.{IsPlannedBut};
 
 use crate::laws::laws;
 use crate::ports::open_ports;
-use crate::schedule::{Held, Schedule};
+use crate::schedule::Schedule;
 use ooo_channels::Bank;
-use ooo_code::{Cells, Design, Effect, JobEnd, SegmentEntry, WaitOn};
+use ooo_code::{Design, Effect, SegmentEntry};
 use ooo_history::End;
-use ooo_interp::{Ran, Room, Start, Whole, run_process};
+use ooo_interp::{LentEnd, Ran, Room, Start, Whole, run_process};
 use ooo_time::{Place, Stamp, Time, after};
 use ooo_value::Value;
-use sqlite_items::Items;
 use std::alloc::{AllocError, Global};
 use std::mem;
 
@@ -42,7 +42,9 @@ pub struct Engine {
     /// Of each channel, the numbers of its events.
     pub notices: Vec<Vec<u32>>,
     pub bank: Bank,
-    pub variables: Vec<Cells>,
+    /// What a process is lent while it runs: its locals, all variables, and the ports of its channels. Between
+    /// activations only the variables count; the memory of the ports is used again.
+    pub parts: Whole,
     /// What an activation's output and effects grow in.
     pub room: Room,
     pub output: Vec<u8>,
@@ -54,13 +56,14 @@ pub struct Engine {
 
 impl Engine {
     // A process runs from where it is: what it did.
-    fn act(
+    #[inline(always)]
+    fn act<'a>(
         &mut self,
         alloc: Global,
-        design: &Design,
+        design: &'a Design,
         p: u32,
         statements: u32,
-    ) -> Result<Ran, AllocError>
+    ) -> Result<Ran<'a>, AllocError>
         requires sound { IsSound design.now }
         requires few { IsFew design.now }
         requires may { MayAct design.now self.old p }
@@ -68,33 +71,22 @@ impl Engine {
     {
         laws();
         let at = p as usize;
-        let ports = open_ports(alloc, design, &self.bank, self.stamp, &self.names[at])?;
-        let entry = self.processes[at].entry;
-        let slots = mem::replace(&mut self.processes[at].slots, Vec::new(alloc));
-        let variables = mem::replace(&mut self.variables, Vec::new(alloc));
-        let room = mem::replace(&mut self.room, Room::new(alloc));
+        let names = &self.names[at];
+        let ports = &mut self.parts.ports;
+        open_ports(alloc, ports, design, &self.bank, self.stamp, names)?;
+        let process = &mut self.processes[at];
         let start = Start {
             process: p,
-            entry,
+            entry: process.entry,
             stamp: self.stamp,
             statements,
         };
-        let mut whole = Whole {
-            slots,
-            variables,
-            ports,
-        };
-        let ran = run_process(alloc, &mut whole, design, start, room)?;
-        let Whole {
-            slots,
-            variables,
-            ports: _,
-        } = whole;
-        self.variables = variables;
-        self.processes[at] = Process {
-            entry: ran.entry,
-            slots,
-        };
+        mem::swap(&mut self.parts.slots, &mut process.slots);
+        let room = mem::replace(&mut self.room, Room::new(alloc));
+        let ran = run_process(&mut self.parts, design, start, room)?;
+        let process = &mut self.processes[at];
+        process.entry = ran.entry;
+        mem::swap(&mut self.parts.slots, &mut process.slots);
         Ok(ran)
     }
 
@@ -173,34 +165,30 @@ impl Engine {
     }
 
     // A process ends its activation: it waits, or it ends the run.
-    fn close(&mut self, alloc: Global, p: u32, end: JobEnd) -> Result<Option<End>, AllocError>
-        requires { (design : DesignSpec) × MayClose design self.old p end }
-        ensures { IfOk result (λ o. Closed p end o self.old self.new) }
+    #[inline(always)]
+    fn close(&mut self, alloc: Global, p: u32, end: LentEnd<'_>) -> Result<Option<End>, AllocError>
+        requires { (design : DesignSpec) × MayClose design self.old p (job_end end) }
+        ensures { IfOk result (λ o. Closed p (job_end end.entry) o self.old self.new) }
     {
         let place = Place {
             stamp: self.stamp,
             process: p,
         };
         match end {
-            JobEnd::Waits(on) => {
-                let WaitOn { time, events } = on;
-                let timeout = timeout_due(self.stamp, time);
-                let held = Held { events, timeout };
+            LentEnd::Waits(on) => {
+                let timeout = timeout_due(self.stamp, on.time);
+                let events = on.events.as_slice();
                 self.schedule
-                    .wait(p as usize, held, &self.bank, self.stamp)?;
+                    .wait(alloc, p as usize, events, timeout, &self.bank, self.stamp)?;
                 Ok(None)
             }
-            JobEnd::Ended => {
-                let held = Held {
-                    events: Items::new(alloc),
-                    timeout: None,
-                };
+            LentEnd::Ended => {
                 self.schedule
-                    .wait(p as usize, held, &self.bank, self.stamp)?;
+                    .wait(alloc, p as usize, &[], None, &self.bank, self.stamp)?;
                 Ok(None)
             }
-            JobEnd::Faulted(fault, line) => Ok(Some(End::Fault(fault, place, line))),
-            JobEnd::Limit(line) => Ok(Some(End::Statements(place, line))),
+            LentEnd::Faulted(fault, line) => Ok(Some(End::Fault(fault, place, line))),
+            LentEnd::Limit(line) => Ok(Some(End::Statements(place, line))),
         }
     }
 

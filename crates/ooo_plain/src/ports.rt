@@ -1,4 +1,4 @@
-ghost use Rattle.std.specs.Prelude.{◌≡◌, ◌<◌, length, IfOk, All, AllPairs};
+ghost use Rattle.std.specs.Prelude.{◌≡◌, ◌<◌, length, IfOk, OnOk, All, AllPairs};
 ghost use Rattle.ooo_code.specs.Sound.{IsSound};
 ghost use Rattle.ooo_channels.specs.Operations.{Operations};
 ghost use Rattle.ooo_meaning.specs.World.{World};
@@ -15,31 +15,32 @@ use ooo_value::{ChannelKind, Value};
 use sqlite_items::Items;
 use std::alloc::{AllocError, Global};
 
-/// What is open to see of these channels at a stamp.
+/// What is open to see of these channels at a stamp, in ports that are dropped first.
 ///
 /// # Errors
 ///
 /// Only where memory runs out.
 pub fn open_ports(
     alloc: Global,
+    ports: &mut Ports,
     design: &Design,
     bank: &Bank,
     at: Stamp,
     names: &Vec<u32>,
-) -> Result<Ports, AllocError>
+) -> Result<(), AllocError>
     requires sound { IsSound design.now }
     requires ascending { AllPairs (λ a b. a < b) names.now.items }
     requires within { All (λ c. c < length design.now.channels) names.now.items }
     requires may { MayOpen design.now bank.now at }
-    ensures { IfOk result (λ ports. (w : World) (ops : Operations) →
-        IsSeenIn design.now bank.now at ops w → all_shown ports ≡ all_open w names.now.items) }
+    ensures { OnOk result ((w : World) (ops : Operations) →
+        IsSeenIn design.now bank.now at ops w → all_shown ports.new ≡ all_open w names.now.items) }
 {
-    let mut ports = Ports::with_capacity(alloc, names.len())?;
+    ports.clear();
     let names = names.as_slice();
     'names: for c in names {
         ports.push(open_port(alloc, design, bank, at, *c)?)?;
     }
-    Ok(ports)
+    Ok(())
 }
 
 // What is open to see of a channel.

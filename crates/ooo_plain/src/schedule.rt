@@ -1,7 +1,8 @@
 ghost use Rattle.std.specs.Prelude.{◌≡◌, ◌↔◌, IsTrue, Some, ◌<◌, length, OnOk, IfOk, IfSome, IfNone, All, Contains, [], ◌∷◌};
 ghost use Rattle.ooo_meaning.specs.World.{sooner, least};
 ghost use Rattle.ooo_plain.specs.Agenda.{AllFrom, Takes, TakesNone};
-ghost use Rattle.ooo_plain.specs.Schedule.{IsNew, AreIdle, IsAsked, MayAskFor, MayAsk, MayAskAll, KnowsWaiters, Joined, Waits, RefreshedOne, Touched, AreEmpty};
+ghost use Rattle.ooo_channels.specs.Bank.{BankState};
+ghost use Rattle.ooo_plain.specs.Schedule.{IsNew, AreIdle, IsAsked, MayAskFor, MayAsk, MayAskAll, KnowsWaiters, Joined, Waits, RefreshedOne, Touched, TouchedOthers, AreEmpty, held_at, held_for, alone, Listens, IsLeastOf};
 
 use crate::agenda::Agenda;
 use ooo_channels::Bank;
@@ -57,43 +58,65 @@ impl Schedule {
         self.agenda.take(now)
     }
 
-    /// A process waits from now on, and is due when the bank says.
+    /// A process waits from now on, and is due when the bank says. Its events are copied only where it waited on others last.
     ///
     /// # Errors
     ///
     /// Only where memory runs out.
-    pub fn wait(&mut self, p: usize, held: Held, bank: &Bank, now: Stamp) -> Result<(), AllocError>
+    #[inline(always)]
+    pub fn wait(
+        &mut self,
+        alloc: Global,
+        p: usize,
+        events: &[u32],
+        timeout: Option<Stamp>,
+        bank: &Bank,
+        now: Stamp,
+    ) -> Result<(), AllocError>
         requires process { p < length self.old.held.items }
         requires knows { KnowsWaiters self.old }
-        requires may { MayAsk bank.now held.events (length self.old.waiters.items) }
-        ensures { OnOk result (Waits p held bank.now now self.old self.new) }
+        requires may { MayAsk bank.now events.now (length self.old.waiters.items) }
+        ensures { let held = held_for events.now timeout in
+            OnOk result (Waits p held bank.now now self.old self.new) }
     {
-        let due = earliest(bank, now, &held);
-        self.join_anew(p, &held.events)?;
-        self.held[p] = held;
+        let due = earliest(bank, now, events, timeout);
+        self.listen(alloc, p, events)?;
+        self.held[p].timeout = timeout;
         self.agenda.set(p, due)?;
         Ok(())
     }
 
-    // A process stands among those that may wait on these events, as it does already where it waited on the same last.
-    fn join_anew(&mut self, p: usize, events: &Items<u32>) -> Result<(), AllocError>
+    // A process waits on these events, as it does already where it waited on the same last.
+    #[inline(always)]
+    fn listen(&mut self, alloc: Global, p: usize, events: &[u32]) -> Result<(), AllocError>
         requires process { p < length self.old.held.items }
         requires knows { KnowsWaiters self.old }
         requires within { All (λ e. e < length self.old.waiters.items) events.now }
-        ensures { OnOk result (Joined p events.now self.old self.new) }
+        ensures { OnOk result (Listens p events.now self.old self.new) }
     {
-        if are_same(&self.held[p].events, events) {
+        if are_same(self.held[p].events.as_slice(), events) {
             return Ok(());
         }
-        self.join_all(p, events)
+        self.listen_anew(alloc, p, events)?;
+        Ok(())
+    }
+
+    // A process waits on these events, whatever it waited on last.
+    fn listen_anew(&mut self, alloc: Global, p: usize, events: &[u32]) -> Result<(), AllocError>
+        requires process { p < length self.old.held.items }
+        requires within { All (λ e. e < length self.old.waiters.items) events.now }
+        ensures { OnOk result (Listens p events.now self.old self.new) }
+    {
+        self.join_all(p, events)?;
+        self.held[p].events = Items::from_slice(alloc, events)?;
+        Ok(())
     }
 
     // A process stands among those that may wait on these events.
-    fn join_all(&mut self, p: usize, events: &Items<u32>) -> Result<(), AllocError>
+    fn join_all(&mut self, p: usize, events: &[u32]) -> Result<(), AllocError>
         requires { All (λ e. e < length self.old.waiters.items) events.now }
         ensures { OnOk result (Joined p events.now self.old self.new) }
     {
-        let events = events.as_slice();
         'events: for e in events {
             self.join(p, *e as usize)?;
         }
@@ -139,11 +162,101 @@ impl Schedule {
         requires may { MayAskAll bank.now self.old }
         ensures { OnOk result (Touched (e ∷ []) bank.now now self.old self.new) }
     {
+        if self.waiters[e as usize].is_empty() {
+            return Ok(());
+        }
+        self.touch_waiters(e, bank, now)?;
+        Ok(())
+    }
+
+    // The same, where processes stand in the event's list. From the first of them on that waits on the event alone, the bank
+    // is asked once for all that wait so.
+    fn touch_waiters(&mut self, e: u32, bank: &Bank, now: Stamp) -> Result<(), AllocError>
+        requires event { e < length self.old.waiters.items }
+        requires knows { KnowsWaiters self.old }
+        requires may { MayAskAll bank.now self.old }
+        ensures { OnOk result (Touched (e ∷ []) bank.now now self.old self.new) }
+    {
         let at = e as usize;
-        'waiters: for i in 0..self.waiters[at].len() {
+        let count = self.waiters[at].len();
+        let asked = self.touch_others(e, bank, now)?;
+        if asked == count {
+            return Ok(());
+        }
+        let first = bank.first(e, now);
+        'waiters: for i in asked..count {
             let q = self.waiters[at][i];
+            self.refresh_knowing(q, e, first, bank, now)?;
+        }
+        Ok(())
+    }
+
+    // Those in an event's list that come before the first who waits on it alone are asked anew: how many they are.
+    fn touch_others(&mut self, e: u32, bank: &Bank, now: Stamp) -> Result<usize, AllocError>
+        requires event { e < length self.old.waiters.items }
+        requires knows { KnowsWaiters self.old }
+        requires may { MayAskAll bank.now self.old }
+        ensures { IfOk result (λ n. TouchedOthers e n bank.now now self.old self.new) }
+    {
+        let at = e as usize;
+        let count = self.waiters[at].len();
+        'waiters: for i in 0..count {
+            let q = self.waiters[at][i];
+            if self.waits_only(q, e) {
+                return Ok(i);
+            }
             self.refresh(q, bank, now)?;
         }
+        Ok(count)
+    }
+
+    // Whether a process waits on an event alone, without a time-out.
+    #[inline(always)]
+    fn waits_only(&self, q: usize, e: u32) -> bool
+        requires { q < length self.now.held.items }
+        ensures { IsTrue result → held_at self.now.held.items q ≡ alone e }
+    {
+        let held = &self.held[q];
+        held.timeout.is_none() && is_one(held.events.as_slice(), e)
+    }
+
+    // A process is asked anew, unless it is due now, where an event's first firing is known.
+    #[inline(always)]
+    fn refresh_knowing(
+        &mut self,
+        q: usize,
+        e: u32,
+        first: Option<Stamp>,
+        bank: &Bank,
+        now: Stamp,
+    ) -> Result<(), AllocError>
+        requires process { q < length self.old.held.items }
+        requires count { length self.old.agenda ≡ length self.old.held.items }
+        requires may { MayAskAll bank.now self.old }
+        requires first { IsAsked bank.now now (alone e) first }
+        ensures { OnOk result (RefreshedOne q bank.now now self.old self.new) }
+    {
+        if self.waits_only(q, e) {
+            self.refresh_by(q, first, now)?;
+            return Ok(());
+        }
+        self.refresh(q, bank, now)?;
+        Ok(())
+    }
+
+    // A process is due as it is told, unless it is due now.
+    #[inline(always)]
+    fn refresh_by(&mut self, q: usize, due: Option<Stamp>, now: Stamp) -> Result<(), AllocError>
+        requires process { q < length self.old.held.items }
+        requires count { length self.old.agenda ≡ length self.old.held.items }
+        ensures { let held = held_at self.old.held.items q in
+            OnOk result ((bank : BankState) → IsAsked bank now held due →
+            RefreshedOne q bank now self.old self.new) }
+    {
+        if is_now(self.agenda.due(q), now) {
+            return Ok(());
+        }
+        self.agenda.set(q, due)?;
         Ok(())
     }
 
@@ -157,7 +270,8 @@ impl Schedule {
         if is_now(self.agenda.due(q), now) {
             return Ok(());
         }
-        let due = earliest(bank, now, &self.held[q]);
+        let held = &self.held[q];
+        let due = earliest(bank, now, held.events.as_slice(), held.timeout);
         self.agenda.set(q, due)?;
         Ok(())
     }
@@ -189,10 +303,22 @@ fn empty_lists(alloc: Global, count: usize) -> Result<Vec<Vec<usize>>, AllocErro
 }
 
 // Whether two lists have the same events.
-fn are_same(a: &Items<u32>, b: &Items<u32>) -> bool
+#[inline(always)]
+fn are_same(a: &[u32], b: &[u32]) -> bool
     ensures { IsTrue result → a.now ≡ b.now }
 {
-    a.as_slice() == b.as_slice()
+    if b.len() == 1 {
+        return is_one(a, b[0]);
+    }
+    a == b
+}
+
+// Whether a list has one event, this one.
+#[inline(always)]
+fn is_one(events: &[u32], e: u32) -> bool
+    ensures { IsTrue result → events.now ≡ e ∷ [] }
+{
+    events.len() == 1 && events[0] == e
 }
 
 // Whether a process stands in a list.
@@ -203,6 +329,7 @@ fn stands_in(list: &[usize], p: usize) -> bool
 }
 
 // Whether a stamp is the present one.
+#[inline(always)]
 fn is_now(due: Option<Stamp>, now: Stamp) -> bool
     ensures { IsTrue result ↔ (due ≡ Some now) }
 {
@@ -210,6 +337,7 @@ fn is_now(due: Option<Stamp>, now: Stamp) -> bool
 }
 
 // The earlier of two stamps, of those that there are.
+#[inline(always)]
 fn earlier(a: Option<Stamp>, b: Option<Stamp>) -> Option<Stamp>
     ensures { result ≡ sooner a b }
 {
@@ -221,16 +349,37 @@ fn earlier(a: Option<Stamp>, b: Option<Stamp>) -> Option<Stamp>
 }
 
 // When a process is due that waits so, as far as the bank knows.
-fn earliest(bank: &Bank, now: Stamp, held: &Held) -> Option<Stamp>
-    requires { MayAskFor bank.now held.now.events }
-    ensures { IsAsked bank.now now held.now result }
+#[inline(always)]
+fn earliest(bank: &Bank, now: Stamp, events: &[u32], timeout: Option<Stamp>) -> Option<Stamp>
+    requires { MayAskFor bank.now events.now }
+    ensures { IsAsked bank.now now (held_for events.now timeout) result }
 {
-    let events = held.events.as_slice();
+    earlier(timeout, first_of(bank, now, events))
+}
+
+// The least of the first firings of these events. Mostly there is one.
+#[inline(always)]
+fn first_of(bank: &Bank, now: Stamp, events: &[u32]) -> Option<Stamp>
+    requires { MayAskFor bank.now events.now }
+    ensures { IsLeastOf bank.now now events.now result }
+{
+    if events.len() == 1 {
+        return bank.first(events[0], now);
+    }
+    first_of_many(bank, now, events)
+}
+
+// The same, asked for one event after the other.
+#[inline(always)]
+fn first_of_many(bank: &Bank, now: Stamp, events: &[u32]) -> Option<Stamp>
+    requires { MayAskFor bank.now events.now }
+    ensures { IsLeastOf bank.now now events.now result }
+{
     let mut found = None;
     let mut left = events.len();
     'events: while left > 0 {
         left -= 1;
         found = earlier(bank.first(events[left], now), found);
     }
-    earlier(held.timeout, found)
+    found
 }

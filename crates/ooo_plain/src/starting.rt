@@ -7,11 +7,11 @@ ghost use Rattle.ooo_plain.specs.Starting.{zeros_of, first_cells, AreFirstProces
 
 use crate::engine::{Engine, Process};
 use crate::laws::laws;
-use crate::schedule::{Held, Schedule};
+use crate::schedule::Schedule;
 use crate::touching::names_of_all;
 use ooo_channels::Bank;
 use ooo_code::{Cells, Design, Proc, SegmentEntry};
-use ooo_interp::Room;
+use ooo_interp::{Ports, Room, Whole};
 use ooo_time::{Stamp, Time};
 use ooo_value::{BoundEvent, BoundVariable, Kind, Value};
 use sqlite_items::Items;
@@ -75,7 +75,11 @@ fn assemble(alloc: Global, design: &Design, bank: Bank, schedule: Schedule, part
         names: parts.names,
         notices: parts.notices,
         bank,
-        variables: parts.variables,
+        parts: Whole {
+            slots: Vec::new(alloc),
+            variables: parts.variables,
+            ports: Ports::new(alloc),
+        },
         room: Room::new(alloc),
         output: Vec::new(alloc),
         last: stamp,
@@ -124,12 +128,8 @@ fn begin_one(
         schedule.agenda.set(p, Some(zero))?;
         return Ok(());
     }
-    let events = Items::from_slice(alloc, process.sensitive.as_slice())?;
-    let held = Held {
-        events,
-        timeout: None,
-    };
-    schedule.wait(p, held, bank, zero)?;
+    let events = process.sensitive.as_slice();
+    schedule.wait(alloc, p, events, None, bank, zero)?;
     Ok(())
 }
 

@@ -28,7 +28,7 @@ fn check(rt: &impl Abort, alloc: Global, e: NodeExpr, text: &str) -> Result<(), 
     code.passed(NodeKind::End, 0)?;
     let mut parts = parts(rt, alloc)?;
     let ran = code.run(&mut parts, MANY)?;
-    assert!(rt; printed(&ran, text), "{text}");
+    assert!(rt; printed(&ran.output, text), "{text}");
     Ok(())
 }
 

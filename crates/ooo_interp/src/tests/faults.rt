@@ -29,7 +29,7 @@ fn check(rt: &impl Abort, alloc: Global, kind: NodeKind, fault: Fault) -> Result
     parts.variables.push(cells(alloc, &[1, 2, 3])?)?;
     let ran = code.run(&mut parts, MANY)?;
     assert_eq!(rt; fault_of(&ran.end), Some((fault, 3)));
-    assert!(rt; printed(&ran, "before"));
+    assert!(rt; printed(&ran.output, "before"));
     assert_eq!(rt;
         ran.effects.as_slice(),
         [Effect::Request(4, Value::Int(3))].as_slice()

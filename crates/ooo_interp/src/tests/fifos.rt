@@ -39,7 +39,7 @@ fn sees_its_own_takes_and_puts(rt: HostRuntime) -> Result<(), Fail> {
     add_port(&rt, &mut parts, fifo(&rt, 0, values, 0))?;
     add_port(&rt, &mut parts, fifo(&rt, 1, Vec::new(alloc), 1))?;
     let ran = two_takes_and_a_put(alloc)?.run(&mut parts, MANY)?;
-    assert!(rt; printed(&ran, "00"));
+    assert!(rt; printed(&ran.output, "00"));
     assert!(rt; are_ints(&parts.slots, &[4, 6]));
     let effects = [
         Effect::Take(0),
@@ -77,7 +77,7 @@ fn a_put_fills_a_slot_for_the_next(rt: HostRuntime) -> Result<(), Fail> {
         let mut parts = locals(alloc, &[])?;
         add_port(&rt, &mut parts, fifo(&rt, 0, Vec::new(alloc), free))?;
         let ran = two_puts(alloc)?.run(&mut parts, MANY)?;
-        assert!(rt; printed(&ran, text));
+        assert!(rt; printed(&ran.output, text));
         let puts = [Effect::Put(0, Value::Int(1)), Effect::Put(0, Value::Int(2))];
         assert!(rt; count <= puts.len());
         assert_eq!(rt; ran.effects.as_slice(), &puts[..count]);
@@ -101,7 +101,7 @@ fn nothing_is_taken_of_an_empty_fifo(rt: HostRuntime) -> Result<(), Fail> {
     let mut parts = locals(alloc, &[3])?;
     add_port(&rt, &mut parts, fifo(&rt, 0, Vec::new(alloc), 2))?;
     let ran = untested_take(alloc)?.run(&mut parts, MANY)?;
-    assert!(rt; printed(&ran, "3"));
+    assert!(rt; printed(&ran.output, "3"));
     assert!(rt; ran.effects.is_empty());
     Ok(())
 }
@@ -126,7 +126,7 @@ fn a_full_fifo_of_the_greatest_size_is_read(rt: HostRuntime) -> Result<(), Fail>
     add_port(&rt, &mut parts, fifo(&rt, 0, values, 0))?;
     let ran = counting(alloc)?.run(&mut parts, 65_536)?;
     assert!(rt; is_over(&ran.end));
-    assert!(rt; printed(&ran, "65535"));
+    assert!(rt; printed(&ran.output, "65535"));
     assert_eq!(rt; ran.effects.len(), 65_536);
     Ok(())
 }

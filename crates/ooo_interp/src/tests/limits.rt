@@ -51,7 +51,7 @@ fn the_limit_falls_on_each_statement_of_a_loop(rt: HostRuntime) -> Result<(), Fa
         let ran = turning(alloc)?.run(&mut parts, statements)?;
         assert_eq!(rt; limit_of(&ran.end), Some(line));
         assert!(rt; are_ints(&parts.slots, &[count]));
-        assert!(rt; printed(&ran, text));
+        assert!(rt; printed(&ran.output, text));
     }
     Ok(())
 }

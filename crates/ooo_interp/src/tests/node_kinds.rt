@@ -29,7 +29,7 @@ fn sets_and_prints(rt: HostRuntime) -> Result<(), Fail> {
     let alloc = rt.alloc();
     let mut parts = locals(alloc, &[1, 2, 3])?;
     let ran = setting_and_printing(alloc)?.run(&mut parts, MANY)?;
-    assert!(rt; printed(&ran, "x=7 at 10 ns"));
+    assert!(rt; printed(&ran.output, "x=7 at 10 ns"));
     assert!(rt; is_over(&ran.end));
     assert!(rt; are_ints(&parts.slots, &[1, 7, 3]));
     Ok(())
@@ -77,7 +77,7 @@ fn goes_one_of_two_ways(rt: HostRuntime) -> Result<(), Fail> {
     for (x, text) in [(1, "yes"), (0, "no"), (-1, "yes")] {
         let mut parts = locals(alloc, &[x])?;
         let ran = choosing(alloc)?.run(&mut parts, MANY)?;
-        assert!(rt; printed(&ran, text), "from {x}");
+        assert!(rt; printed(&ran.output, text), "from {x}");
     }
     Ok(())
 }
@@ -128,8 +128,8 @@ fn uses_a_room_again(rt: HostRuntime) -> Result<(), Fail> {
     let mut parts = locals(alloc, &[])?;
     let mut room = Room::new(alloc);
     for _ in 0..3 {
-        let ran = run_process(alloc, &mut parts, &design, start, room)?;
-        assert!(rt; printed(&ran, "x"));
+        let ran = run_process(&mut parts, &design, start, room)?;
+        assert!(rt; printed(&ran.output, "x"));
         assert_eq!(rt; ran.effects.as_slice(), [Effect::Stop].as_slice());
         let Ran {
             entry: _,
@@ -161,6 +161,6 @@ fn reads_signals(rt: HostRuntime) -> Result<(), Fail> {
     add_port(&rt, &mut parts, Port::Signal(4, Value::Bool(true), true))?;
     add_port(&rt, &mut parts, Port::Signal(6, Value::Int(-9), false))?;
     let ran = reading_signals(alloc)?.run(&mut parts, MANY)?;
-    assert!(rt; printed(&ran, "1110-90"));
+    assert!(rt; printed(&ran.output, "1110-90"));
     Ok(())
 }

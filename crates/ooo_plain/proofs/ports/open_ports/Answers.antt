@@ -6,7 +6,7 @@ use Rattle.ooo_plain.proofs.Opening.{OpenedSoFar, opened_none, opened_more, open
 use Rattle.ooo_plain.proofs.ports.open_ports.Goals as goal
 
 pub names-init : goal.names-init
-names-init c = subst (OpenedSoFar c.args.design.now c.args.bank.now c.args.at _) (sym c.in_ok-ports.ensures) (opened_none c.args.design.now c.args.bank.now c.args.at)
+names-init c = subst (OpenedSoFar c.args.design.now c.args.bank.now c.args.at _) (sym c.clear.ensures) (opened_none c.args.design.now c.args.bank.now c.args.at)
 
 pub push-requires : goal.push-requires
 push-requires c = opened_below c.args.design.now c.args.bank.now c.args.at c.as_slice-names.result.now c.names.c-index _ c.names.ports c.in_ok-open_port.field-0 c.names-test.true

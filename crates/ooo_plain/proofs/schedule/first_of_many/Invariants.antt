@@ -1,6 +1,6 @@
 use Rattle.std.specs.Prelude.{◌≤◌, length, drop}
 use Rattle.ooo_plain.specs.Schedule.{IsLeastOf}
-use Rattle.ooo_plain.proofs.schedule.earliest.Given as goal
+use Rattle.ooo_plain.proofs.schedule.first_of_many.Given as goal
 
 abbrev pub invariant-events : goal.invariant-events
 invariant-events l = record {

@@ -1,10 +1,10 @@
 use Rattle.std.specs.Prelude.{◌≡◌, ◌≤◌, length}
 use Rattle.ooo_plain.specs.Schedule.{TouchedSoFar, waiting_on}
-use Rattle.ooo_plain.proofs.schedule.Schedule.touch.Given as goal
+use Rattle.ooo_plain.proofs.schedule.Schedule.touch_others.Given as goal
 
 abbrev pub invariant-waiters : goal.invariant-waiters
 invariant-waiters l = record {
-  end : l.i-end ≡ length (waiting_on l.fn.self l.e);
-  within : l.i ≤ l.i-end;
+  end : l.count ≡ length (waiting_on l.fn.self l.e);
+  within : l.i ≤ l.count;
   so_far : TouchedSoFar l.e l.i l.bank l.now l.fn.self l.self;
 }
