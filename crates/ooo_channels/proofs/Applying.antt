@@ -8,27 +8,33 @@ use Rattle.std.proofs.Math.ListN.{drop_of_length-le}
 use Rattle.ooo_time.specs.declared.stamp.Stamp.{Stamp}
 use Rattle.ooo_code.specs.declared.activation.Effect.{Effect}
 use Rattle.ooo_code.specs.declared.activation.Effect.TheVariants as effect
+use Rattle.ooo_channels.specs.declared.notices.Notice.{Notice}
+use Rattle.ooo_channels.specs.declared.notices.Notice.TheVariants as notice
 use Rattle.ooo_channels.specs.declared.channel.ChannelState.{ChannelState}
 use Rattle.ooo_channels.specs.declared.channel.ChannelState.TheVariants as state
 use Rattle.ooo_channels.specs.Operations.{Operations, after_effect, after_effects, is_on, is_call_on}
-use Rattle.ooo_channels.specs.Room.{HasRoom, count}
+use Rattle.ooo_channels.specs.Room.{HasNoticeRoom, HasRoom, count}
 use Rattle.ooo_channels.specs.Conditions.{MayApply, MayApplyAll}
 use Rattle.ooo_channels.specs.Bank.{BankState, IsBankAfter, Covers, Applies}
 use Rattle.ooo_channels.proofs.Banked.{untouched}
 
 -- room for more is room for less
+pub HasNoticeRoom-less : (n m : ℕ) (x : Notice) → m ≤ n → HasNoticeRoom n x → HasNoticeRoom m x
+HasNoticeRoom-less n m (notice.Kept x) le room = omega (arith, le, room)
+HasNoticeRoom-less n m notice.Unasked le room = tt
+
 pub HasRoom-less : (n m : ℕ) (s : ChannelState) → m ≤ n → HasRoom n s → HasRoom m s
 HasRoom-less n m (state.Signal s) le room = record {
   history = omega (arith, room.history);
-  changes = omega (arith, room.changes);
-  rises = omega (arith, room.rises);
-  falls = omega (arith, room.falls);
+  changes = HasNoticeRoom-less n m s.changes le room.changes;
+  rises = HasNoticeRoom-less n m s.rises le room.rises;
+  falls = HasNoticeRoom-less n m s.falls le room.falls;
 }
 HasRoom-less n m (state.Fifo s) le room = record {
   history = omega (arith, room.history);
   values = omega (arith, room.values);
-  puts = omega (arith, room.puts);
-  takes = omega (arith, room.takes);
+  puts = HasNoticeRoom-less n m s.puts le room.puts;
+  takes = HasNoticeRoom-less n m s.takes le room.takes;
 }
 
 count-first : (test : Effect → Bool) (f : Effect) (fs : List Effect) → count test (f ∷ []) ≤ count test (f ∷ fs)

@@ -1,7 +1,7 @@
 -- What a bank answers of an event.
 use Rattle.std.proofs.Common.{◌≡◌, ◌≢◌, ℕ, ◌<◌, List, Option, Some, refl, ap, sym, subst, ◌∙◌, arith, length, get_or}
 use Rattle.std.specs.Prelude.{slice_get}
-use Rattle.std.proofs.lemmas.Option.{slice_get-get_or, slice_get_within}
+use Rattle.std.proofs.lemmas.Option.{slice_get-get_or, slice_get_within, get_or_from_slice_get}
 use Rattle.ooo_time.specs.declared.stamp.Stamp.{Stamp}
 use Rattle.ooo_time.specs.Stamps.{IsBefore}
 use Rattle.ooo_value.specs.declared.bound.BoundEvent.{BoundEvent}
@@ -15,8 +15,8 @@ use Rattle.ooo_channels.specs.declared.channel.ChannelState.TheVariants as state
 use Rattle.ooo_channels.specs.Operations.{Operations}
 use Rattle.ooo_channels.specs.Calls.{calls_of, calls_by, channel_calls, own_calls, channel_of, FiresAt}
 use Rattle.ooo_channels.specs.Conditions.{HasEventAt, FitsChannels}
-use Rattle.ooo_channels.specs.Kept.{HasKind, HasEvent, IsEventKept, IsSignalEvent, IsFifoEvent}
-use Rattle.ooo_channels.specs.Bank.{BankState, IsBankAfter}
+use Rattle.ooo_channels.specs.Kept.{HasKind, HasEvent, Keeps, IsEventKept, IsSignalEvent, IsFifoEvent}
+use Rattle.ooo_channels.specs.Bank.{BankState, IsBankAfter, IsKeptIn}
 use Rattle.ooo_channels.proofs.Banked.{channel_there, channel_kind}
 use Rattle.ooo_channels.proofs.Keeping.{first_kept}
 
@@ -78,6 +78,18 @@ module _ (xs : List ChannelState) (kinds : List BoundEvent) (es : List EventStat
 
   pub event_has : (ops : Operations) (e : ℕ) (k : BoundEvent) (c : ℕ) (s : ChannelState) → IsBankAfter bank ops → HasEventAt ops e → k ≡ get_or kinds e k → c ≡ channel_of k → k ≢ event.Own → s ≡ get_or xs c s → HasEvent k s
   event_has ops e k c s h has is at ne here = has_event ops k c s h (fits ops e k h has is) at ne here
+
+  -- its channel keeps it
+  pub event_kept : (ops : Operations) (e : ℕ) (k : BoundEvent) (c : ℕ) (s : ChannelState) → IsBankAfter bank ops → HasEventAt ops e → k ≡ get_or kinds e k → c ≡ channel_of k → k ≢ event.Own → s ≡ get_or xs c s → Keeps k s
+  event_kept ops e k c s h has is at ne here = subst (Keeps k) (sym here) (subst (λ n. Keeps k (get_or xs n s)) (sym at) (kept s within)) where
+    mine : slice_get ops.events e ≡ Some k
+    mine = kind_is ops e k h (kind_there ops e h has) is
+
+    kept : IsKeptIn xs k
+    kept = subst (IsKeptIn xs) (get_or_from_slice_get ops.events e k k mine) (h.asked e k (slice_get_within ops.events e k mine))
+
+    within : channel_of k < length xs
+    within = subst (λ n. n < length xs) at (event_channel_there ops e k c h has is at ne)
 
   -- an event of a channel
   pub first_of_channel :

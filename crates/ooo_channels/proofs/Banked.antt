@@ -1,6 +1,6 @@
 -- A bank after one more effect.
 use Rattle.std.proofs.Common.{◌≡◌, ◌≢◌, ℕ, zero, suc, ◌+◌, ◌<◌, ◌≤◌, ◌++◌, true, false, cond, arith, List, [], ◌∷◌, Some, refl, ap, sym, subst, ◌∙◌, append-nil, length, get_or, set, ⊎_elim, add-one}
-use Rattle.std.specs.Prelude.{slice_get, filter}
+use Rattle.std.specs.Prelude.{slice_get, filter, All}
 use Rattle.std.proofs.lemmas.Bool.{cases_eq}
 use Rattle.std.proofs.lemmas.List.{get_or-set_same, get_or-set_other, length-set}
 use Rattle.std.proofs.lemmas.Option.{slice_get_within}
@@ -15,11 +15,11 @@ use Rattle.ooo_code.specs.declared.activation.Effect.{Effect}
 use Rattle.ooo_channels.specs.declared.channel.ChannelState.{ChannelState}
 use Rattle.ooo_channels.specs.Operations.{Operations, after_effect, is_on, is_call_on}
 use Rattle.ooo_channels.specs.Cycles.{cycle_of, cycle_after}
-use Rattle.ooo_channels.specs.Calls.{own_calls, own_call, channel_calls, renewals}
+use Rattle.ooo_channels.specs.Calls.{own_calls, own_call, channel_calls, channel_of, renewals}
 use Rattle.ooo_channels.specs.Conditions.{HasChannel}
-use Rattle.ooo_channels.specs.Kept.{IsEventKept, IsChannelAfter, IsChannelNext, HasKind}
+use Rattle.ooo_channels.specs.Kept.{IsEventKept, IsChannelAfter, IsChannelNext, HasKind, Keeps}
 use Rattle.ooo_channels.specs.Room.{HasRoom, count}
-use Rattle.ooo_channels.specs.Bank.{BankState, IsBankAfter, Covers}
+use Rattle.ooo_channels.specs.Bank.{BankState, IsBankAfter, IsKeptIn, Covers}
 use Rattle.ooo_channels.proofs.Steps.{operation, cycle_of-other, cycle_of-on, channel_calls-other, channel_calls-after, own_calls-after, IsChannelAfter-calls}
 
 -- what holds of the place that is set, and of each other, holds of each
@@ -35,6 +35,18 @@ pub get_or_same : {A : Type 0} (xs : List A) (i : ℕ) (d e : A) → i < length 
 get_or_same [] i d e lt = absurd (omega arith)
 get_or_same (x ∷ xs) zero d e lt = refl
 get_or_same (x ∷ xs) (suc i) d e lt = get_or_same xs i d e (omega arith)
+
+-- a channel in whose place another one stands that keeps the same events
+module _ (xs : List ChannelState) (c : ℕ) (s t : ChannelState) (lt : c < length xs) (is : s ≡ get_or xs c s) (keeps : (k : BoundEvent) → Keeps k s → Keeps k t) where
+  pub kept_in-set : (k : BoundEvent) → IsKeptIn xs k → IsKeptIn (set xs c t) k
+  kept_in-set k h = λ d within.
+      set_cases (λ j x. channel_of k ≡ j → Keeps k x) xs c t d lt
+      (λ at. keeps k (subst (Keeps k) (sym is) (subst (λ n. Keeps k (get_or xs n s)) at (h s (omega (arith, at, lt))))))
+      (λ j ne at. subst (λ n. Keeps k (get_or xs n d)) at (h d (omega (arith, within, length-set xs c t))))
+      (channel_of k) refl
+
+  pub all_kept-set : (ks : List BoundEvent) → All (IsKeptIn xs) ks → All (IsKeptIn (set xs c t)) ks
+  all_kept-set ks h = λ n e within. kept_in-set (get_or ks n e) (h n e within)
 
 module _ (ops : Operations) (at : Stamp) (f : Effect) where
   -- a channel that the effect isn't on
@@ -91,15 +103,16 @@ module _ (xs : List ChannelState) (kinds : List BoundEvent) (es : List EventStat
     channel_kinds = h.channel_kinds;
     channels = λ c d lt. channel_other ops at f c (get_or xs c d) (off c) (h.channels c d lt);
     events = λ e d own. event_other ops at f e (get_or es e d) (silent e) (h.events e d own);
+    asked = h.asked;
   }
 
   -- an effect on a channel
   pub channel_applied :
-      (ops : Operations) (at : Stamp) (f : Effect) (c : ℕ) (k : ChannelKind) (t : ChannelState) → IsBankAfter bank ops → HasChannel ops c k → HasKind k t →
+      (ops : Operations) (at : Stamp) (f : Effect) (c : ℕ) (k : ChannelKind) (s t : ChannelState) → IsBankAfter bank ops → HasChannel ops c k → HasKind k t → s ≡ get_or xs c s → ((k : BoundEvent) → Keeps k s → Keeps k t) →
       is_on c f ≡ true → ((d : ℕ) → d ≢ c → is_on d f ≡ false) → ((e : ℕ) → own_call e (operation at f) ≡ []) →
       IsChannelNext c below (cycle_of ops c) (channel_calls ops) (operation at f) t →
       IsBankAfter (record { channels = set xs c t; kinds = kinds; events = es; below = below }) (after_effect at ops f)
-  channel_applied ops at f c k t h has kind on off silent next = record {
+  channel_applied ops at f c k was t h has kind is keeps on off silent next = record {
     channel_count = length-set xs c t ∙ h.channel_count;
     event_count = h.event_count;
     kinds = h.kinds;
@@ -108,6 +121,7 @@ module _ (xs : List ChannelState) (kinds : List BoundEvent) (es : List EventStat
     channels = λ d s lt. set_cases (λ j x. j < length xs → IsChannelAfter j ops.below (cycle_of (after_effect at ops f) j) (channel_calls (after_effect at ops f)) x) xs c t s there
         (λ _. channel_on ops at f c t on (subst (λ b. IsChannelNext c b (cycle_of ops c) (channel_calls ops) (operation at f) t) h.below next)) (λ j ne below. channel_other ops at f j (get_or xs j s) (off j ne) (h.channels j s below)) d (let e = length-set xs c t in omega (arith, lt, e));
     events = λ e d own. event_other ops at f e (get_or es e d) (silent e) (h.events e d own);
+    asked = all_kept-set xs c was t there is keeps ops.events h.asked;
   } where
     there : c < length xs
     there = channel_there ops c k h has
@@ -131,6 +145,7 @@ module _ (xs : List ChannelState) (kinds : List BoundEvent) (es : List EventStat
     events = λ d z is. set_cases (λ j a. slice_get ops.events j ≡ Some event.Own → IsEventKept ops.below a (own_calls (after_effect at ops f) j)) es e y z there
         (λ _. subst (IsEventKept ops.below y) (sym (own_calls-after ops at f e ∙ ap (λ cs. own_calls ops e ++ cs) on)) (subst (λ b. IsEventKept b y (own_calls ops e ++ c ∷ [])) h.below (kept (own_calls ops e) (subst (λ b. IsEventKept b x (own_calls ops e)) (sym h.below) was))))
         (λ j ne mine. event_other ops at f j (get_or es j z) (silent j ne) (h.events j z mine)) d is;
+    asked = h.asked;
   } where
     there : e < length es
     there = omega (arith, slice_get_within ops.events e event.Own own, h.event_count)

@@ -5,6 +5,8 @@ use Rattle.ooo_time.specs.Stamps.{IsBefore}
 use Rattle.ooo_value.specs.declared.bound.BoundEvent.{BoundEvent}
 use Rattle.ooo_events.specs.declared.call.Call.{Call}
 use Rattle.ooo_events.specs.Events.{EventState}
+use Rattle.ooo_channels.specs.declared.notices.Notice.{Notice}
+use Rattle.ooo_channels.specs.declared.notices.Notice.TheVariants as notice
 use Rattle.ooo_channels.specs.declared.channel.ChannelState.{ChannelState}
 use Rattle.ooo_channels.specs.declared.channel.ChannelState.TheVariants as state
 use Rattle.ooo_channels.specs.Operations.{Operations, later_of, after_forgetting}
@@ -25,8 +27,9 @@ module _ (below more : Stamp) (wider : (s : Stamp) → ¬ IsBefore s more → ¬
   event_wider : (x : EventState) (calls : List Call) → IsEventKept below x calls → IsEventKept more x calls
   event_wider x calls h = record { after = h.after; remembers = λ s later. h.remembers s (wider s later) }
 
-  notice_wider : (stamp : Stamp) (x : EventState) (calls : List Call) → IsNotice below stamp x calls → IsNotice more stamp x calls
-  notice_wider stamp x calls h = record { kept = event_wider x calls h.kept; by = h.by }
+  notice_wider : (stamp : Stamp) (x : Notice) (calls : List Call) → IsNotice below stamp x calls → IsNotice more stamp x calls
+  notice_wider stamp (notice.Kept x) calls h = record { kept = event_wider x calls h.kept; by = h.by }
+  notice_wider stamp notice.Unasked calls h = record { kept = tt; by = tt }
 
   channel_wider : (c : ℕ) (x : Cycle) (calls : BoundEvent → List Call) (s : ChannelState) → IsChannelAfter c below x calls s → IsChannelAfter c more x calls s
   channel_wider c x calls (state.Signal s) h = record {
@@ -57,4 +60,5 @@ bank_forgets xs kinds es was now below ops is h = record {
   channel_kinds = h.channel_kinds;
   channels = λ c d lt. channel_wider ops.below (later_of ops.below below) (λ s. not_before-later_of ops.below below s) c _ _ _ (h.channels c d lt);
   events = λ e d own. event_wider ops.below (later_of ops.below below) (λ s. not_before-later_of ops.below below s) _ _ (h.events e d own);
+  asked = h.asked;
 }

@@ -13,19 +13,26 @@ forgotten-after_call : (e : EventState) (c : Call) → (event_after_call e c).fo
 forgotten-after_call e (Notify at delay) = refl
 forgotten-after_call e (Cancel at) = refl
 
--- an event that forgets, and then has one more call
+-- an event that forgets, and then has one more call, which forgets nothing
+pub more_kept :
+    (below : Stamp) (old mid new : EventState) (c : Call) (calls : List Call) → IsEventKept below old calls →
+    IsEventAfter mid calls → ((s : Stamp) → Remembers old s → ¬ IsBefore s below → Remembers mid s) →
+    (IsEventAfter mid calls → IsEventAfter new (calls ++ c ∷ [])) → new.forgotten ≡ mid.forgotten →
+    IsEventKept below new (calls ++ c ∷ [])
+more_kept below old mid new c calls kept after remembers more same = record {
+  after = more after;
+  remembers = λ s later f e. remembers s (kept.remembers s later) later f (sym same ∙ e);
+}
+
+-- the same, where the event is known exactly
 pub call_kept :
     (below : Stamp) (old mid new : EventState) (c : Call) (calls : List Call) → IsEventKept below old calls →
     IsEventAfter mid calls → ((s : Stamp) → Remembers old s → ¬ IsBefore s below → Remembers mid s) →
     (IsEventAfter mid calls → IsEventAfter new (calls ++ c ∷ [])) →
     new ≡ (let made = event_after_call mid c in record made { spare = new.spare }) →
     IsEventKept below new (calls ++ c ∷ [])
-call_kept below old mid new c calls kept after remembers more exact = record {
-  after = more after;
-  remembers = λ s later f e. remembers s (kept.remembers s later) later f (sym same ∙ e);
-} where
-  same : new.forgotten ≡ mid.forgotten
-  same = ap (λ e. e.forgotten) exact ∙ forgotten-after_call mid c
+call_kept below old mid new c calls kept after remembers more exact =
+    more_kept below old mid new c calls kept after remembers more (ap (λ e. e.forgotten) exact ∙ forgotten-after_call mid c)
 
 -- what an event that forgot answers
 pub first_kept :

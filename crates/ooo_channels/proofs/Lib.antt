@@ -8,6 +8,7 @@ pub mod Starts
 pub mod Steps
 pub mod Banked
 pub mod Making
+pub mod Histories
 pub mod Forgetting
 pub mod Applying
 pub mod Asking

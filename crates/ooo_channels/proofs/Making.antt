@@ -1,22 +1,26 @@
 -- A bank as it is made.
-use Rattle.std.proofs.Common.{◌≡◌, ℕ, zero, suc, ◌+◌, ◌<◌, ◌++◌, arith, List, [], ◌∷◌, Some, None, refl, ap, sym, subst, ◌∙◌, length, get_or, length-append}
-use Rattle.std.specs.Prelude.{slice_get}
+use Rattle.std.proofs.Common.{◌≡◌, ℕ, zero, suc, ◌+◌, ◌<◌, ◌++◌, arith, List, [], ◌∷◌, Some, None, refl, ap, sym, subst, ◌∙◌, length, get_or, set, take, length-append}
+use Rattle.std.specs.Prelude.{slice_get, All}
+use Rattle.std.proofs.lemmas.List.{length-set, take_more}
+use Rattle.std.proofs.lemmas.List.Elements.{All-append, All-cons, All-nil}
 use Rattle.std.proofs.lemmas.Option.{slice_get_within, slice_get-get_or}
 use Rattle.ooo_time.specs.declared.stamp.Stamp.{Stamp}
 use Rattle.ooo_value.specs.declared.bound.BoundChannel.{BoundChannel}
+use Rattle.ooo_value.specs.declared.bound.ChannelKind.{ChannelKind}
 use Rattle.ooo_value.specs.declared.bound.BoundEvent.{BoundEvent}
 use Rattle.ooo_value.specs.declared.bound.BoundEvent.TheVariants as event
 use Rattle.ooo_events.specs.Events.{EventState, IsEventAfter}
 use Rattle.ooo_channels.specs.declared.channel.ChannelState.{ChannelState}
 use Rattle.ooo_meaning.specs.World.{zero_stamp}
 use Rattle.ooo_channels.specs.Operations.{no_operations}
-use Rattle.ooo_channels.specs.Cycles.{first_cycle, cycle_of}
+use Rattle.ooo_channels.specs.Cycles.{Cycle, first_cycle, cycle_of}
 use Rattle.ooo_channels.specs.Calls.{notified_by, own_calls}
 use Rattle.ooo_channels.specs.Kept.{IsEventKept, IsChannelAfter, HasKind}
-use Rattle.ooo_channels.specs.Bank.{IsBankAfter, IsFirst, AreFirst, AreNew}
+use Rattle.ooo_channels.specs.Bank.{IsBankAfter, IsKeptIn, IsFirst, AreFirst, AreNew}
+use Rattle.ooo_channels.proofs.Banked.{set_cases}
 
 -- what holds of each element and of one more
-each_push : {A : Type 0} (P : ℕ → A → Type 0) (xs ys : List A) (x d : A) → ys ≡ xs ++ x ∷ [] → ((k : ℕ) → k < length xs → P k (get_or xs k d)) → P (length xs) x → (k : ℕ) → k < length ys → P k (get_or ys k d)
+pub each_push : {A : Type 0} (P : ℕ → A → Type 0) (xs ys : List A) (x d : A) → ys ≡ xs ++ x ∷ [] → ((k : ℕ) → k < length xs → P k (get_or xs k d)) → P (length xs) x → (k : ℕ) → k < length ys → P k (get_or ys k d)
 each_push P [] ys x d is each last zero lt = subst (λ zs. P 0 (get_or zs 0 d)) (sym is) last
 each_push P [] ys x d is each last (suc k) lt = absurd (omega (arith, ap length is))
 each_push P (z ∷ zs) ys x d is each last zero lt = subst (λ ws. P 0 (get_or ws 0 d)) (sym is) (each 0 (omega arith))
@@ -63,14 +67,44 @@ first_more channels i b made more x lt h is kind first = record {
     first = λ below. subst (λ o. IsChannelAfter i below (first_cycle o) (λ k. []) x) (sym there) (first i below);
   }
 
+-- ---- their events
+
+-- a channel that keeps one of its events besides
+pub first_asked :
+    (channels : List BoundChannel) (n : ℕ) (xs : List ChannelState) (c : ℕ) (s t : ChannelState) → c < length xs → s ≡ get_or xs c s →
+    ((k : ChannelKind) → HasKind k s → HasKind k t) →
+    ((c : ℕ) (below : Stamp) (x : Cycle) → IsChannelAfter c below x (λ k. []) s → IsChannelAfter c below x (λ k. []) t) →
+    AreFirst channels n xs → AreFirst channels n (set xs c t)
+first_asked channels n xs c s t lt is kind after h = record {
+  count_is = length-set xs c t ∙ h.count_is;
+  first = λ d z within. set_cases (λ j a. j < length xs → IsFirst channels j a) xs c t z lt
+      (λ _. one (subst (IsFirst channels c) (sym is) (h.first c s lt))) (λ j ne there. h.first j z there) d (let l = length-set xs c t in omega (arith, within, l));
+} where
+  one : IsFirst channels c s → IsFirst channels c t
+  one was = record { kind = λ b at. kind b.kind (was.kind b at); first = λ below. after c below (first_cycle (slice_get channels c)) (was.first below) }
+
+-- the first events of a list are kept
+pub asked_none : (xs : List ChannelState) (events : List BoundEvent) → All (IsKeptIn xs) (take 0 events)
+asked_none xs events = All-nil (IsKeptIn xs)
+
+pub asked_more :
+    (xs ys : List ChannelState) (events : List BoundEvent) (i : ℕ) (d : BoundEvent) → i < length events →
+    ((k : BoundEvent) → IsKeptIn xs k → IsKeptIn ys k) → IsKeptIn ys (get_or events i d) →
+    All (IsKeptIn xs) (take i events) → All (IsKeptIn ys) (take (i + 1) events)
+asked_more xs ys events i d lt others one h =
+    subst (All (IsKeptIn ys)) (sym (take_more events i d lt))
+    (All-append (IsKeptIn ys) (take i events) (get_or events i d ∷ [])
+    (λ n e within. others (get_or (take i events) n e) (h n e within))
+    (All-cons (IsKeptIn ys) (get_or events i d) [] one (All-nil (IsKeptIn ys))))
+
 -- ---- the bank
 
 pub bank_made :
     (channels : List BoundChannel) (events : List BoundEvent) (xs : List ChannelState) (es : List EventState) →
-    AreFirst channels (length channels) xs → AreNew (length events) es →
+    AreFirst channels (length channels) xs → AreNew (length events) es → All (IsKeptIn xs) events →
     IsBankAfter (record { channels = xs; kinds = events; events = es; below = zero_stamp }) (no_operations channels events)
 unfolding cycle_of notified_by own_calls
-bank_made channels events xs es first new = record {
+bank_made channels events xs es first new asked = record {
   channel_count = first.count_is;
   event_count = new.count_is;
   kinds = refl;
@@ -78,6 +112,7 @@ bank_made channels events xs es first new = record {
   channel_kinds = λ c d b is. (first.first c d (omega (arith, slice_get_within channels c b is, first.count_is))).kind b is;
   channels = λ c d lt. (first.first c d lt).first zero_stamp;
   events = λ e d own. new.new e d zero_stamp (slice_get_within events e event.Own own);
+  asked = asked;
 }
 
 pub stamp_zero : (s : Stamp) → (s.time.0 ≡ 0) × (s.delta ≡ 0) → s ≡ zero_stamp

@@ -6,46 +6,45 @@ use Rattle.ooo_value.specs.declared.bound.BoundEvent.{BoundEvent}
 use Rattle.ooo_value.specs.declared.bound.BoundEvent.TheVariants as event
 use Rattle.ooo_events.specs.declared.call.Call.{Call}
 use Rattle.ooo_events.specs.declared.call.Call.TheVariants as call
-use Rattle.ooo_events.specs.Calls.{Follows}
-use Rattle.ooo_events.specs.Events.{EventState}
 use Rattle.ooo_code.specs.declared.activation.Effect.TheVariants as effect
 use Rattle.ooo_code.specs.Channels.{IsSignal}
+use Rattle.ooo_channels.specs.declared.notices.Notice.{Notice}
 use Rattle.ooo_channels.specs.declared.signal.SignalState.{SignalState}
 use Rattle.ooo_channels.specs.declared.fifo.FifoState.{FifoState}
 use Rattle.ooo_channels.specs.Operations.{Operation}
 use Rattle.ooo_channels.specs.Cycles.{Cycle, cycle_after}
 use Rattle.ooo_channels.specs.Calls.{notifies, bears_on, renewal, renewals}
 use Rattle.ooo_channels.specs.Room.{HasSignalRoom, HasFifoRoom}
-use Rattle.ooo_channels.specs.Kept.{IsEventKept, IsNotice, IsSignalIn, IsFifoIn, IsSignalAfter, IsFifoAfter, AreSignalEventsBy, AreFifoEventsBy, signal_of}
+use Rattle.ooo_channels.specs.Kept.{IsNoticeKept, IsNoticeBy, IsNotice, IsSignalIn, IsFifoIn, IsSignalAfter, IsFifoAfter, AreSignalEventsBy, AreFifoEventsBy, signal_of}
 
 -- an event on which the operation bears
 notice_next :
-    (k : BoundEvent) (o : Operation) (y : Cycle) (old new : EventState) (below stamp : Stamp) (calls : List Call) (notified : Bool) →
-    bears_on k o.effect ≡ true → notifies k y.channel ≡ notified → stamp ≡ y.stamp → IsEventKept below old calls →
-    ((cs : List Call) → IsEventKept below old cs → IsEventKept below new (cs ++ renewal o.at notified ∷ [])) →
-    Follows new.last stamp → IsNotice below y.stamp new (calls ++ renewals k y.channel o)
+    (k : BoundEvent) (o : Operation) (y : Cycle) (old new : Notice) (below stamp : Stamp) (calls : List Call) (notified : Bool) →
+    bears_on k o.effect ≡ true → notifies k y.channel ≡ notified → stamp ≡ y.stamp → IsNoticeKept below old calls →
+    ((cs : List Call) → IsNoticeKept below old cs → IsNoticeKept below new (cs ++ renewal o.at notified ∷ [])) →
+    IsNoticeBy stamp new → IsNotice below y.stamp new (calls ++ renewals k y.channel o)
 notice_next k o y old new below stamp calls notified bears is same kept more by = record {
   kept = rw (bears, is) (more calls kept);
-  by = subst (Follows new.last) same by;
+  by = subst (λ a. IsNoticeBy a new) same by;
 }
 
 -- an event on which it doesn't
 notice_other :
-    (k : BoundEvent) (o : Operation) (y : Cycle) (old new : EventState) (below stamp : Stamp) (calls : List Call) →
-    bears_on k o.effect ≡ false → stamp ≡ y.stamp → IsEventKept below old calls → new ≡ old →
-    Follows new.last stamp → IsNotice below y.stamp new (calls ++ renewals k y.channel o)
+    (k : BoundEvent) (o : Operation) (y : Cycle) (old new : Notice) (below stamp : Stamp) (calls : List Call) →
+    bears_on k o.effect ≡ false → stamp ≡ y.stamp → IsNoticeKept below old calls → new ≡ old →
+    IsNoticeBy stamp new → IsNotice below y.stamp new (calls ++ renewals k y.channel o)
 notice_other k o y old new below stamp calls bears same kept is by = record {
   kept = rw (bears, append-nil calls, is) kept;
-  by = subst (Follows new.last) same by;
+  by = subst (λ a. IsNoticeBy a new) same by;
 }
 
 module _ (s t : SignalState) (c : ℕ) (below : Stamp) (x : Cycle) (calls : BoundEvent → List Call) (at : Stamp) (v : Value) where
   -- a signal after a request
   pub signal_next :
       IsSignalAfter c below x calls s → IsSignalIn t (cycle_after x (record { at = at; effect = effect.Request c v })) → AreSignalEventsBy t →
-      ((cs : List Call) → IsEventKept below s.changes cs → IsEventKept below t.changes (cs ++ renewal at (notifies (event.Changed 0) (IsSignal (signal_of t))) ∷ [])) →
-      ((cs : List Call) → IsEventKept below s.rises cs → IsEventKept below t.rises (cs ++ renewal at (notifies (event.Rise 0) (IsSignal (signal_of t))) ∷ [])) →
-      ((cs : List Call) → IsEventKept below s.falls cs → IsEventKept below t.falls (cs ++ renewal at (notifies (event.Fall 0) (IsSignal (signal_of t))) ∷ [])) →
+      ((cs : List Call) → IsNoticeKept below s.changes cs → IsNoticeKept below t.changes (cs ++ renewal at (notifies (event.Changed 0) (IsSignal (signal_of t))) ∷ [])) →
+      ((cs : List Call) → IsNoticeKept below s.rises cs → IsNoticeKept below t.rises (cs ++ renewal at (notifies (event.Rise 0) (IsSignal (signal_of t))) ∷ [])) →
+      ((cs : List Call) → IsNoticeKept below s.falls cs → IsNoticeKept below t.falls (cs ++ renewal at (notifies (event.Fall 0) (IsSignal (signal_of t))) ∷ [])) →
       HasSignalRoom 0 t →
       (let o : Operation = record { at = at; effect = effect.Request c v } in
       IsSignalAfter c below (cycle_after x o) (λ k. calls k ++ renewals k (cycle_after x o).channel o) t)
@@ -66,7 +65,7 @@ module _ (s t : FifoState) (c : ℕ) (below : Stamp) (x : Cycle) (calls : BoundE
   -- a fifo after a put
   pub put_next :
       (v : Value) → IsFifoAfter c below x calls s → IsFifoIn t (cycle_after x (record { at = at; effect = effect.Put c v })) → AreFifoEventsBy t → 1 ≤ t.written →
-      ((cs : List Call) → IsEventKept below s.puts cs → IsEventKept below t.puts (cs ++ call.Notify at (record { 0 = 0 }) ∷ [])) → t.takes ≡ s.takes → HasFifoRoom 0 t →
+      ((cs : List Call) → IsNoticeKept below s.puts cs → IsNoticeKept below t.puts (cs ++ call.Notify at (record { 0 = 0 }) ∷ [])) → t.takes ≡ s.takes → HasFifoRoom 0 t →
       (let o : Operation = record { at = at; effect = effect.Put c v } in
       IsFifoAfter c below (cycle_after x o) (λ k. calls k ++ renewals k (cycle_after x o).channel o) t)
   put_next v h is by some puts takes room = record {
@@ -84,7 +83,7 @@ module _ (s t : FifoState) (c : ℕ) (below : Stamp) (x : Cycle) (calls : BoundE
   -- a fifo after a take
   pub take_next :
       IsFifoAfter c below x calls s → IsFifoIn t (cycle_after x (record { at = at; effect = effect.Take c })) → AreFifoEventsBy t → 1 ≤ t.read →
-      ((cs : List Call) → IsEventKept below s.takes cs → IsEventKept below t.takes (cs ++ call.Notify at (record { 0 = 0 }) ∷ [])) → t.puts ≡ s.puts → HasFifoRoom 0 t →
+      ((cs : List Call) → IsNoticeKept below s.takes cs → IsNoticeKept below t.takes (cs ++ call.Notify at (record { 0 = 0 }) ∷ [])) → t.puts ≡ s.puts → HasFifoRoom 0 t →
       (let o : Operation = record { at = at; effect = effect.Take c } in
       IsFifoAfter c below (cycle_after x o) (λ k. calls k ++ renewals k (cycle_after x o).channel o) t)
   take_next h is by some takes puts room = record {

@@ -13,12 +13,13 @@ use Rattle.ooo_time.specs.declared.time.Time.{Time}
 use Rattle.ooo_value.specs.declared.values.Value.{Value}
 use Rattle.ooo_value.specs.declared.bound.ChannelKind.TheVariants as kind
 use Rattle.ooo_channels.specs.Conditions.{Names, HasChannel}
+use Rattle.ooo_channels.specs.declared.notices.Notice.TheVariants as notice
 use Rattle.ooo_channels.specs.declared.channel.ChannelState.{ChannelState}
 use Rattle.ooo_channels.specs.declared.channel.ChannelState.TheVariants as state
 use Rattle.ooo_channels.specs.Operations.{Operations, is_on, is_call_on}
 use Rattle.ooo_channels.specs.Calls.{channel_calls, own_calls}
 use Rattle.ooo_channels.specs.Bank.{BankState, IsBankAfter, Covers, HasMoreRoom, HasRoomFor, ChannelHasRoom, EventHasRoom}
-use Rattle.ooo_channels.proofs.Banked.{set_cases, get_or_same}
+use Rattle.ooo_channels.proofs.Banked.{set_cases, get_or_same, all_kept-set}
 use Rattle.ooo_channels.proofs.Applying.{HasRoom-less}
 use Rattle.ooo_time.specs.declared.stamp.Stamp.{Stamp}
 use Rattle.ooo_value.specs.declared.bound.BoundEvent.{BoundEvent}
@@ -30,7 +31,7 @@ use Rattle.ooo_channels.specs.declared.signal.SignalState.{SignalState}
 use Rattle.ooo_channels.specs.declared.fifo.FifoState.{FifoState}
 use Rattle.ooo_channels.specs.Cycles.{Cycle, cycle_of}
 use Rattle.ooo_channels.specs.Room.{HasSignalRoom, HasFifoRoom, HasRoom, count}
-use Rattle.ooo_channels.specs.Kept.{IsEventKept, IsNotice, IsSignalAfter, IsFifoAfter, IsChannelAfter, HasKind}
+use Rattle.ooo_channels.specs.Kept.{IsEventKept, IsNotice, IsSignalAfter, IsFifoAfter, IsChannelAfter, HasKind, Keeps}
 
 -- an event with more room
 pub event_reserved :
@@ -41,40 +42,42 @@ event_reserved below x y calls rest after h = record {
   remembers = λ s later f e. h.remembers s later f (sym (ap (λ z. z.forgotten) rest) ∙ e);
 }
 
-notice_reserved :
+pub notice_reserved :
     (below stamp : Stamp) (x y : EventState) (calls : List Call) → y ≡ record x { spare = y.spare } → ((cs : List Call) → IsEventAfter x cs → IsEventAfter y cs) →
-    IsNotice below stamp x calls → IsNotice below stamp y calls
+    IsNotice below stamp (notice.Kept x) calls → IsNotice below stamp (notice.Kept y) calls
 notice_reserved below stamp x y calls rest after h = record {
   kept = event_reserved below x y calls rest after h.kept;
   by = subst (λ l. Follows l stamp) (sym (ap (λ z. z.last) rest)) h.by;
 }
 
-pub signal_reserved :
+-- a signal with other room, or other events
+pub signal_with :
     (s t : SignalState) (c : ℕ) (below : Stamp) (x : Cycle) (calls : BoundEvent → List Call) →
     t ≡ record s { history = t.history; changes = t.changes; rises = t.rises; falls = t.falls } → t.history.items ≡ s.history.items →
-    t.changes ≡ record s.changes { spare = t.changes.spare } → ((cs : List Call) → IsEventAfter s.changes cs → IsEventAfter t.changes cs) →
-    t.rises ≡ record s.rises { spare = t.rises.spare } → ((cs : List Call) → IsEventAfter s.rises cs → IsEventAfter t.rises cs) →
-    t.falls ≡ record s.falls { spare = t.falls.spare } → ((cs : List Call) → IsEventAfter s.falls cs → IsEventAfter t.falls cs) →
+    (IsNotice below x.stamp s.changes (calls (event.Changed c)) → IsNotice below x.stamp t.changes (calls (event.Changed c))) →
+    (IsNotice below x.stamp s.rises (calls (event.Rise c)) → IsNotice below x.stamp t.rises (calls (event.Rise c))) →
+    (IsNotice below x.stamp s.falls (calls (event.Fall c)) → IsNotice below x.stamp t.falls (calls (event.Fall c))) →
     HasSignalRoom 0 t → IsSignalAfter c below x calls s → IsSignalAfter c below x calls t
-signal_reserved s t c below x calls same history a a' b b' d d' room h = record {
+signal_with s t c below x calls same history changes rises falls room h = record {
   cycle = record {
     stamp = ap (λ z. z.stamp) same ∙ h.cycle.stamp;
     channel = ap (λ z. IsSignal (record { current = z.current; requested = z.requested; changed = z.changed })) same ∙ h.cycle.channel;
     history = history ∙ h.cycle.history;
   };
-  changes = notice_reserved below x.stamp _ _ _ a a' h.changes;
-  rises = notice_reserved below x.stamp _ _ _ b b' h.rises;
-  falls = notice_reserved below x.stamp _ _ _ d d' h.falls;
+  changes = changes h.changes;
+  rises = rises h.rises;
+  falls = falls h.falls;
   room = room;
 }
 
-pub fifo_reserved :
+-- a fifo with other room, or other events
+pub fifo_with :
     (s t : FifoState) (c : ℕ) (below : Stamp) (x : Cycle) (calls : BoundEvent → List Call) →
     t ≡ record s { history = t.history; values = t.values; puts = t.puts; takes = t.takes } → t.history.items ≡ s.history.items → t.values.items ≡ s.values.items →
-    t.puts ≡ record s.puts { spare = t.puts.spare } → ((cs : List Call) → IsEventAfter s.puts cs → IsEventAfter t.puts cs) →
-    t.takes ≡ record s.takes { spare = t.takes.spare } → ((cs : List Call) → IsEventAfter s.takes cs → IsEventAfter t.takes cs) →
+    (IsNotice below x.stamp s.puts (calls (event.Written c)) → IsNotice below x.stamp t.puts (calls (event.Written c))) →
+    (IsNotice below x.stamp s.takes (calls (event.Taken c)) → IsNotice below x.stamp t.takes (calls (event.Taken c))) →
     HasFifoRoom 0 t → IsFifoAfter c below x calls s → IsFifoAfter c below x calls t
-fifo_reserved s t c below x calls same history values a a' b b' room h = record {
+fifo_with s t c below x calls same history values puts takes room h = record {
   cycle = record {
     fifo = h.cycle.fifo;
     channel = h.cycle.channel;
@@ -87,8 +90,8 @@ fifo_reserved s t c below x calls same history values a a' b b' room h = record 
     fits = h.cycle.fits;
     history = history ∙ h.cycle.history;
   };
-  puts = notice_reserved below x.stamp _ _ _ a a' h.puts;
-  takes = notice_reserved below x.stamp _ _ _ b b' h.takes;
+  puts = puts h.puts;
+  takes = takes h.takes;
   room = room;
 }
 
@@ -100,10 +103,10 @@ module _ (xs : List ChannelState) (kinds : List BoundEvent) (es : List EventStat
 
   -- a bank with more room for a channel
   pub more_on_channel :
-      (c : ℕ) (s t : ChannelState) → c < length xs → s ≡ get_or xs c s → ((m : ℕ) → HasRoom m s → HasRoom m t) → ((k : ChannelKind) → HasKind k s → HasKind k t) →
+      (c : ℕ) (s t : ChannelState) → c < length xs → s ≡ get_or xs c s → ((m : ℕ) → HasRoom m s → HasRoom m t) → ((k : ChannelKind) → HasKind k s → HasKind k t) → ((k : BoundEvent) → Keeps k s → Keeps k t) →
       ((c : ℕ) (below : Stamp) (x : Cycle) (calls : BoundEvent → List Call) → IsChannelAfter c below x calls s → IsChannelAfter c below x calls t) →
       HasMoreRoom bank (record { channels = set xs c t; kinds = kinds; events = es; below = below })
-  more_on_channel c s t lt is room kind after = record {
+  more_on_channel c s t lt is room kind keeps after = record {
     after = λ ops h. record {
       channel_count = length-set xs c t ∙ h.channel_count;
       event_count = h.event_count;
@@ -114,6 +117,7 @@ module _ (xs : List ChannelState) (kinds : List BoundEvent) (es : List EventStat
       channels = λ d z within. set_cases (λ j a. j < length xs → IsChannelAfter j ops.below (cycle_of ops j) (channel_calls ops) a) xs c t z lt
           (λ _. after c ops.below (cycle_of ops c) (channel_calls ops) (subst (IsChannelAfter c ops.below (cycle_of ops c) (channel_calls ops)) (sym is) (h.channels c s lt))) (λ j ne there. h.channels j z there) d (let l = length-set xs c t in omega (arith, within, l));
       events = h.events;
+      asked = all_kept-set xs c s t lt is keeps ops.events h.asked;
     };
     channel_count = length-set xs c t;
     event_count = refl;
@@ -136,6 +140,7 @@ module _ (xs : List ChannelState) (kinds : List BoundEvent) (es : List EventStat
       channels = h.channels;
       events = λ d z own. set_cases (λ j a. slice_get ops.events j ≡ Some event.Own → IsEventKept ops.below a (own_calls ops j)) es e y z lt
           (λ own. event_reserved ops.below x y (own_calls ops e) rest after (subst (λ a. IsEventKept ops.below a (own_calls ops e)) (sym is) (h.events e x own))) (λ j ne own. h.events j z own) d own;
+      asked = h.asked;
     };
     channel_count = refl;
     event_count = length-set es e y;

@@ -1,5 +1,5 @@
 -- A bank, by the operations that were applied to it.
-use Rattle.std.specs.Prelude.{◌≡◌, true, ℕ, ◌<◌, ◌≤◌, List, [], ◌∷◌, length, Some, slice_get, slice_index_or}
+use Rattle.std.specs.Prelude.{◌≡◌, true, ℕ, ◌<◌, ◌≤◌, List, [], ◌∷◌, length, Some, All, slice_get, slice_index_or}
 use Rattle.ooo_time.specs.declared.stamp.Stamp.{Stamp}
 use Rattle.ooo_value.specs.declared.bound.BoundChannel.{BoundChannel}
 use Rattle.ooo_value.specs.declared.bound.BoundEvent.{BoundEvent}
@@ -9,9 +9,10 @@ use Rattle.ooo_code.specs.declared.activation.Effect.{Effect}
 use Rattle.ooo_channels.specs.declared.channel.ChannelState.{ChannelState}
 use Rattle.ooo_channels.specs.Operations.{Operations, after_effect, is_on, is_call_on}
 use Rattle.ooo_channels.specs.Conditions.{MayApply}
-use Rattle.ooo_channels.specs.Cycles.{cycle_of, first_cycle}
-use Rattle.ooo_channels.specs.Calls.{own_calls, channel_calls}
-use Rattle.ooo_channels.specs.Kept.{IsEventKept, IsChannelAfter, HasKind}
+use Rattle.ooo_history.specs.declared.run.Entry.{Entry}
+use Rattle.ooo_channels.specs.Cycles.{cycle_of, first_cycle, history_in}
+use Rattle.ooo_channels.specs.Calls.{own_calls, channel_calls, channel_of}
+use Rattle.ooo_channels.specs.Kept.{IsEventKept, IsChannelAfter, HasKind, Keeps}
 use Rattle.ooo_channels.specs.Room.{HasRoom, count}
 
 -- what a bank keeps
@@ -20,6 +21,10 @@ pub record BankState : Type 0 where
   pub kinds : List BoundEvent
   pub events : List EventState
   pub below : Stamp
+
+-- the channel of an event keeps the event, if that channel is there and has such an event
+abbrev pub IsKeptIn : List ChannelState → BoundEvent → Type 0
+IsKeptIn channels k = (d : ChannelState) → channel_of k < length channels → Keeps k (slice_index_or channels (channel_of k) d)
 
 -- a bank to which these operations were applied
 pub record IsBankAfter (bank : BankState) (ops : Operations) : Type 0 where
@@ -30,6 +35,7 @@ pub record IsBankAfter (bank : BankState) (ops : Operations) : Type 0 where
   pub channel_kinds : (c : ℕ) (d : ChannelState) (b : BoundChannel) → slice_get ops.channels c ≡ Some b → HasKind b.kind (slice_index_or bank.channels c d)
   pub channels : (c : ℕ) (d : ChannelState) → c < length bank.channels → IsChannelAfter c ops.below (cycle_of ops c) (channel_calls ops) (slice_index_or bank.channels c d)
   pub events : (e : ℕ) (d : EventState) → slice_get ops.events e ≡ Some event.Own → IsEventKept ops.below (slice_index_or bank.events e d) (own_calls ops e)
+  pub asked : All (IsKeptIn bank.channels) ops.events
 
 -- a bank has room for these effects: each channel and each event for those on it
 pub record Covers (bank : BankState) (effects : List Effect) : Type 0 where
@@ -50,6 +56,11 @@ pub record AreFirst (channels : List BoundChannel) (count : ℕ) (made : List Ch
 pub record AreNew (count : ℕ) (made : List EventState) : Type 0 where
   pub count_is : length made ≡ count
   pub new : (e : ℕ) (d : EventState) (below : Stamp) → e < count → IsEventKept below (slice_index_or made e d) []
+
+-- the histories of the first n channels of a bank, up to the cycle of a stamp
+pub record AreHistories (bank : BankState) (at : Stamp) (n : ℕ) (histories : List (List Entry)) : Type 0 where
+  pub count : length histories ≡ n
+  pub each : (ops : Operations) → IsBankAfter bank ops → (c : ℕ) (d : List Entry) → c < n → slice_index_or histories c d ≡ history_in at ops c
 
 -- one effect was applied to a bank: whatever was applied before, it is applied now too, and the room for more is left
 pub record Applies (old new : BankState) (at : Stamp) (f : Effect) : Type 0 where

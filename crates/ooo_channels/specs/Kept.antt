@@ -10,6 +10,8 @@ use Rattle.ooo_events.specs.declared.call.Call.{Call}
 use Rattle.ooo_events.specs.Calls.{Follows}
 use Rattle.ooo_events.specs.Events.{EventState, IsEventAfter, Remembers}
 use Rattle.ooo_code.specs.Channels.{Signal, Fifo, IsSignal, IsFifo, available}
+use Rattle.ooo_channels.specs.declared.notices.Notice.{Notice}
+use Rattle.ooo_channels.specs.declared.notices.Notice.TheVariants as notice
 use Rattle.ooo_channels.specs.declared.signal.SignalState.{SignalState}
 use Rattle.ooo_channels.specs.declared.fifo.FifoState.{FifoState}
 use Rattle.ooo_channels.specs.declared.channel.ChannelState.{ChannelState}
@@ -25,10 +27,25 @@ pub record IsEventKept (below : Stamp) (event : EventState) (calls : List Call) 
   pub after : IsEventAfter event calls
   pub remembers : (s : Stamp) → ¬ IsBefore s below → Remembers event s
 
+-- an event of a channel on which these calls were made; where nobody can ask for it, nothing is said
+abbrev pub IsNoticeKept : (below : Stamp) → Notice → List Call → Type 0
+IsNoticeKept below (notice.Kept e) calls = IsEventKept below e calls
+IsNoticeKept below notice.Unasked calls = ⊤
+
+-- no call on an event of a channel is later than a stamp
+abbrev pub IsNoticeBy : Stamp → Notice → Type 0
+IsNoticeBy stamp (notice.Kept e) = Follows e.last stamp
+IsNoticeBy stamp notice.Unasked = ⊤
+
 -- an event of a channel, the last call on which isn't later than the channel's cycle
-pub record IsNotice (below stamp : Stamp) (event : EventState) (calls : List Call) : Type 0 where
-  pub kept : IsEventKept below event calls
-  pub by : Follows event.last stamp
+pub record IsNotice (below stamp : Stamp) (event : Notice) (calls : List Call) : Type 0 where
+  pub kept : IsNoticeKept below event calls
+  pub by : IsNoticeBy stamp event
+
+-- an event of a channel is kept
+abbrev pub IsAsked : Notice → Type 0
+IsAsked (notice.Kept e) = ⊤
+IsAsked notice.Unasked = ⊥
 
 -- the signal that is kept
 abbrev pub signal_of : SignalState → Signal
@@ -86,14 +103,14 @@ HasKind _ _ = ⊥
 
 -- the events of a signal, no call on which is later than its cycle
 pub record AreSignalEventsBy (s : SignalState) : Type 0 where
-  pub changes : Follows s.changes.last s.stamp
-  pub rises : Follows s.rises.last s.stamp
-  pub falls : Follows s.falls.last s.stamp
+  pub changes : IsNoticeBy s.stamp s.changes
+  pub rises : IsNoticeBy s.stamp s.rises
+  pub falls : IsNoticeBy s.stamp s.falls
 
 -- the events of a fifo, no call on which is later than its cycle
 pub record AreFifoEventsBy (s : FifoState) : Type 0 where
-  pub puts : Follows s.puts.last s.stamp
-  pub takes : Follows s.takes.last s.stamp
+  pub puts : IsNoticeBy s.stamp s.puts
+  pub takes : IsNoticeBy s.stamp s.takes
 
 -- an event of a signal
 abbrev pub IsSignalEvent : BoundEvent → Type 0
@@ -112,3 +129,21 @@ IsFifoEvent _ = ⊥
 abbrev pub HasEvent : BoundEvent → ChannelState → Type 0
 HasEvent k (state.Signal s) = IsSignalEvent k
 HasEvent k (state.Fifo f) = IsFifoEvent k
+
+-- a signal keeps an event, if it is one of a signal
+abbrev pub SignalKeeps : BoundEvent → SignalState → Type 0
+SignalKeeps (event.Changed c) s = IsAsked s.changes
+SignalKeeps (event.Rise c) s = IsAsked s.rises
+SignalKeeps (event.Fall c) s = IsAsked s.falls
+SignalKeeps _ s = ⊤
+
+-- a fifo keeps an event, if it is one of a fifo
+abbrev pub FifoKeeps : BoundEvent → FifoState → Type 0
+FifoKeeps (event.Written c) s = IsAsked s.puts
+FifoKeeps (event.Taken c) s = IsAsked s.takes
+FifoKeeps _ s = ⊤
+
+-- a channel keeps an event, if it has such an event
+abbrev pub Keeps : BoundEvent → ChannelState → Type 0
+Keeps k (state.Signal s) = SignalKeeps k s
+Keeps k (state.Fifo f) = FifoKeeps k f

@@ -1,16 +1,18 @@
-ghost use Rattle.std.specs.Prelude.{◌≡◌, ◌≢◌, ◌<◌, ◌≤◌, ◌++◌, List, [], ◌∷◌, length, Some, IfOk, OnOk, MatchOption, All, slice_get};
+ghost use Rattle.std.specs.Prelude.{◌≡◌, ◌≢◌, ◌<◌, ◌≤◌, ◌++◌, ℕ, List, [], ◌∷◌, length, Some, IfOk, OnOk, MatchOption, All, slice_get};
 ghost use Rattle.ooo_time.specs.Stamps.{IsBefore};
 ghost use Rattle.ooo_events.specs.Firings.{IsFirstAfter};
 ghost use Rattle.ooo_code.specs.declared.activation.Effect.{Effect as EffectSpec};
+ghost use Rattle.ooo_value.specs.declared.bound.BoundChannel.{BoundChannel as ChannelSpec};
 ghost use Rattle.ooo_value.specs.declared.bound.ChannelKind.TheVariants as kind;
 ghost use Rattle.ooo_channels.specs.Operations.{Operations, no_operations, after_effects, after_forgetting};
-ghost use Rattle.ooo_channels.specs.Cycles.{channel_in, history_in, cycle_of, readable, writable, values_left, IsSeenAs};
+ghost use Rattle.ooo_channels.specs.Cycles.{channel_in, cycle_of, readable, writable, values_left, IsSeenAs};
 ghost use Rattle.ooo_channels.specs.Calls.{FiresAt, channel_of};
 ghost use Rattle.ooo_code.specs.declared.activation.Effect.TheVariants as effect;
+ghost use Rattle.ooo_value.specs.declared.bound.BoundEvent.{BoundEvent as EventSpec};
 ghost use Rattle.ooo_value.specs.declared.bound.BoundEvent.TheVariants as event;
 ghost use Rattle.ooo_channels.specs.Conditions.{HasChannel, HasEventAt, Names, MayApply, MayApplyAll, IsCountableStamp};
 ghost use Rattle.ooo_channels.specs.Apart.{LeavesOthers, AreAllSame};
-ghost use Rattle.ooo_channels.specs.Bank.{IsBankAfter, Covers, Applies, HasMoreRoom, HasRoomFor, AreFirst, AreNew};
+ghost use Rattle.ooo_channels.specs.Bank.{IsBankAfter, Covers, Applies, HasMoreRoom, HasRoomFor, IsKeptIn, AreFirst, AreNew, AreHistories};
 
 use crate::channel::ChannelState;
 use crate::notices::make;
@@ -19,6 +21,7 @@ use ooo_events::{Call, Event};
 use ooo_history::Entry;
 use ooo_time::{Stamp, Time};
 use ooo_value::{BoundChannel, BoundEvent, Value};
+use sqlite_items::Items;
 use std::alloc::{AllocError, Global};
 use std::marker::Model;
 
@@ -54,7 +57,8 @@ impl Bank {
         ensures { let ops = no_operations design.now.channels design.now.events in
             IfOk result (λ bank. IsBankAfter bank ops) }
     {
-        let channels = first_channels(alloc, design.channels.as_slice())?;
+        let mut channels = first_channels(alloc, design.channels.as_slice())?;
+        ask_all(&mut channels, alloc, design.events.as_slice());
         let kinds = Vec::from_slice(alloc, design.events.as_slice())?;
         let events = first_events(alloc, kinds.len())?;
         Ok(Bank {
@@ -107,20 +111,22 @@ impl Bank {
         self.channels[id as usize].value(n as usize)
     }
 
-    /// The history of a channel up to the cycle of a stamp: what the updates before it added, in each cycle
-    /// what was read before what was written.
+    /// The histories of all channels up to the cycle of a stamp, channel by channel: what the updates before
+    /// it added, in each cycle what was read before what was written. The bank is used up, and no history is
+    /// copied.
     ///
     /// # Errors
     ///
     /// Only where memory runs out.
-    pub fn history(&self, alloc: Global, id: u32, at: Stamp) -> Result<Vec<Entry>, AllocError>
-        requires { (ops : Operations) × IsBankAfter self.now ops × (id < length ops.channels) }
-        ensures { IfOk result (λ h. (ops : Operations) → IsBankAfter self.now ops →
-            h.items ≡ history_in at ops id) }
+    pub fn into_histories(self, alloc: Global, at: Stamp) -> Result<Vec<Items<Entry>>, AllocError>
+        requires { (ops : Operations) × IsBankAfter self ops }
+        ensures { IfOk result (λ made. AreHistories self at (length self.channels) made.items) }
     {
-        let mut history = Vec::new(alloc);
-        self.channels[id as usize].append_history(at, &mut history)?;
-        Ok(history)
+        let mut made = Vec::new(alloc);
+        for channel in self.channels {
+            made.push(Items::from_vec(channel.into_history(at)?))?;
+        }
+        Ok(made)
     }
 
     /// Makes room for effects on channels and events that are there.
@@ -189,6 +195,7 @@ impl Bank {
     }
 
     /// Makes room for `n` effects on what an effect is on.
+    #[inline(always)]
     fn reserve_for(&mut self, effect: Effect, n: usize) -> Result<(), AllocError>
         requires { (ops : Operations) × IsBankAfter self.old ops × Names ops effect }
         ensures room { OnOk result (HasRoomFor self.new effect n) }
@@ -307,6 +314,31 @@ fn first_channels(alloc: Global, channels: &[BoundChannel]) -> Result<Vec<Channe
         made.push(ChannelState::new(alloc, *channel))?;
     }
     Ok(made)
+}
+
+/// Lets the channels of a design keep those of their events that the design has.
+fn ask_all(channels: &mut Vec<ChannelState>, alloc: Global, events: &[BoundEvent])
+    ensures first { (design : List ChannelSpec) (count : ℕ) →
+        AreFirst design count channels.old.items → AreFirst design count channels.new.items }
+    ensures asked { All (IsKeptIn channels.new.items) events.now }
+{
+    for kind in events {
+        ask(channels, alloc, *kind);
+    }
+}
+
+/// Lets the channel of an event keep it, if the event is one of a channel that is there.
+fn ask(channels: &mut Vec<ChannelState>, alloc: Global, kind: BoundEvent)
+    ensures first { (design : List ChannelSpec) (count : ℕ) →
+        AreFirst design count channels.old.items → AreFirst design count channels.new.items }
+    ensures kept { IsKeptIn channels.new.items kind }
+    ensures others { (k : EventSpec) → IsKeptIn channels.old.items k → IsKeptIn channels.new.items k }
+{
+    if let Some(c) = channel(kind) {
+        if (c as usize) < channels.len() {
+            channels[c as usize].ask(alloc, kind);
+        }
+    }
 }
 
 /// So many events on which no call was made.

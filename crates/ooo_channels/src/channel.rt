@@ -1,4 +1,4 @@
-ghost use Rattle.std.specs.Prelude.{◌≡◌, ◌+◌, ◌++◌, ◌≤◌, ◌<◌, ℕ, List, [], length, Some, OnOk, slice_get};
+ghost use Rattle.std.specs.Prelude.{◌≡◌, ◌+◌, ◌++◌, ◌≤◌, ◌<◌, ℕ, List, [], length, Some, OnOk, IfOk, slice_get};
 ghost use Rattle.ooo_value.specs.declared.bound.ChannelKind.{ChannelKind as KindSpec};
 ghost use Rattle.ooo_time.specs.Stamps.{IsBefore};
 ghost use Rattle.ooo_events.specs.declared.call.Call.{Call as CallSpec};
@@ -25,10 +25,10 @@ pub enum ChannelState {
 }
 
 impl ChannelState {
-    ghost use Rattle.ooo_channels.specs.Kept.{HasKind, HasEvent, IsChannelAfter, IsChannelNext};
+    ghost use Rattle.ooo_channels.specs.Kept.{HasKind, HasEvent, IsChannelAfter, IsChannelNext, Keeps};
     ghost use Rattle.ooo_channels.specs.Room.{HasRoom};
 
-    /// A channel as it starts. It takes no memory.
+    /// A channel as it starts, which keeps none of its events. It takes no memory.
     pub fn new(alloc: Global, channel: BoundChannel) -> ChannelState
         ensures kind { HasKind channel.kind result }
         ensures first { (c : ℕ) (below : Stamp) →
@@ -40,17 +40,33 @@ impl ChannelState {
         }
     }
 
+    /// Keeps an event of the channel, on which there was no operation yet. It takes no memory.
+    pub fn ask(&mut self, alloc: Global, kind: BoundEvent)
+        ensures kind { (k : KindSpec) → HasKind k self.old → HasKind k self.new }
+        ensures kept { Keeps kind self.new }
+        ensures keeps { (k : EventSpec) → Keeps k self.old → Keeps k self.new }
+        ensures after { (c : ℕ) (below : Stamp) (x : Cycle) →
+            IsChannelAfter c below x (λ k. []) self.old → IsChannelAfter c below x (λ k. []) self.new }
+    {
+        match self {
+            ChannelState::Signal(signal) => signal.ask(alloc, kind),
+            ChannelState::Fifo(fifo) => fifo.ask(alloc, kind),
+        }
+    }
+
     /// Makes room for `n` more effects.
     ///
     /// # Errors
     ///
     /// Only where memory runs out.
+    #[inline(always)]
     pub fn reserve(&mut self, n: usize) -> Result<(), AllocError>
         ensures room { OnOk result (HasRoom n self.new) }
         ensures kept { (m : ℕ) → HasRoom m self.old → HasRoom m self.new }
         ensures kind { (k : KindSpec) → HasKind k self.old → HasKind k self.new }
         ensures after { (c : ℕ) (below : Stamp) (x : Cycle) (calls : EventSpec → List CallSpec) →
             IsChannelAfter c below x calls self.old → IsChannelAfter c below x calls self.new }
+        ensures keeps { (k : EventSpec) → Keeps k self.old → Keeps k self.new }
     {
         match self {
             ChannelState::Signal(signal) => signal.reserve(n),
@@ -58,21 +74,21 @@ impl ChannelState {
         }
     }
 
-    /// Appends the history up to the cycle of a stamp.
+    /// The history up to the cycle of a stamp. The channel is used up, and its history isn't copied.
     ///
     /// # Errors
     ///
     /// Only where memory runs out.
-    pub fn append_history(&self, at: Stamp, out: &mut Vec<Entry>) -> Result<(), AllocError>
+    pub fn into_history(self, at: Stamp) -> Result<Vec<Entry>, AllocError>
         requires { (c : ℕ) × (below : Stamp) × (x : Cycle) × (calls : EventSpec → List CallSpec)
-            × IsChannelAfter c below x calls self.now }
-        ensures { OnOk result ((c : ℕ) (below : Stamp) (x : Cycle) (calls : EventSpec → List CallSpec) →
-            IsChannelAfter c below x calls self.now →
-            out.new.items ≡ out.old.items ++ (cycle_at at x).history) }
+            × IsChannelAfter c below x calls self }
+        ensures { IfOk result (λ h. (c : ℕ) (below : Stamp) (x : Cycle)
+            (calls : EventSpec → List CallSpec) → IsChannelAfter c below x calls self →
+            h.items ≡ (cycle_at at x).history) }
     {
         match self {
-            ChannelState::Signal(signal) => signal.append_history(at, out),
-            ChannelState::Fifo(fifo) => fifo.append_history(at, out),
+            ChannelState::Signal(signal) => signal.into_history(at),
+            ChannelState::Fifo(fifo) => fifo.into_history(at),
         }
     }
 
@@ -101,6 +117,7 @@ impl ChannelState {
         ensures after { (c : ℕ) (x : Cycle) (calls : EventSpec → List CallSpec) →
             IsChannelAfter c below x calls self.old → ¬ IsBefore at x.stamp →
             IsChannelNext c below x calls (record { at = at; effect = effect.Request c value }) self.new }
+        ensures keeps { (k : EventSpec) → Keeps k self.old → Keeps k self.new }
         ensures room { (n : ℕ) → HasRoom (n + 1) self.old → HasRoom n self.new }
     {
         match self {
@@ -122,6 +139,7 @@ impl ChannelState {
             IsChannelAfter c below x calls self.old → ¬ IsBefore at x.stamp →
             1 ≤ writable (cycle_at at x).channel →
             IsChannelNext c below x calls (record { at = at; effect = effect.Put c value }) self.new }
+        ensures keeps { (k : EventSpec) → Keeps k self.old → Keeps k self.new }
         ensures room { (n : ℕ) → HasRoom (n + 1) self.old → HasRoom n self.new }
     {
         match self {
@@ -143,6 +161,7 @@ impl ChannelState {
             IsChannelAfter c below x calls self.old → ¬ IsBefore at x.stamp →
             1 ≤ length (readable (cycle_at at x).channel) →
             IsChannelNext c below x calls (record { at = at; effect = effect.Take c }) self.new }
+        ensures keeps { (k : EventSpec) → Keeps k self.old → Keeps k self.new }
         ensures room { (n : ℕ) → HasRoom (n + 1) self.old → HasRoom n self.new }
     {
         match self {
@@ -195,7 +214,8 @@ impl ChannelState {
 
     /// The first firing after a stamp of an event of the channel.
     pub fn first(&self, kind: BoundEvent, since: Stamp) -> Option<Stamp>
-        requires { HasEvent kind self.now }
+        requires is { HasEvent kind self.now }
+        requires kept { Keeps kind self.now }
         ensures { (below : Stamp) (x : Cycle) (calls : EventSpec → List CallSpec) →
             IsChannelAfter (channel_of kind) below x calls self.now → ¬ IsBefore since below →
             IsFirstAfter (Fires (calls kind)) since result }

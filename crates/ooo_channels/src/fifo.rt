@@ -1,4 +1,4 @@
-ghost use Rattle.std.specs.Prelude.{◌≡◌, ◌+◌, ◌-◌, ◌≤◌, ◌<◌, ◌^◌, ℕ, List, [], ◌∷◌, ◌++◌, length, drop, map, Some, None, OnOk, vec_len, vec_capacity, slice_get};
+ghost use Rattle.std.specs.Prelude.{◌≡◌, ◌+◌, ◌-◌, ◌≤◌, ◌<◌, ◌^◌, ℕ, List, [], ◌∷◌, ◌++◌, length, drop, map, Some, None, OnOk, IfOk, vec_len, vec_capacity, slice_get};
 ghost use Rattle.std.specs.VecDeque.{deque_len, deque_capacity};
 ghost use Rattle.ooo_time.specs.Stamps.{IsBefore};
 ghost use Rattle.ooo_events.specs.declared.call.Call.{Call as CallSpec};
@@ -11,10 +11,9 @@ ghost use Rattle.ooo_value.specs.declared.bound.BoundEvent.{BoundEvent as EventS
 ghost use Rattle.ooo_channels.specs.Calls.{channel_of};
 ghost use Rattle.ooo_channels.specs.Entries.{put_entry, took_entry};
 
-use crate::notices::make;
-use ooo_events::{Call, Event};
+use crate::notices::Notice;
 use ooo_history::{Entry, What};
-use ooo_time::{Stamp, Time};
+use ooo_time::Stamp;
 use ooo_value::{BoundEvent, Value};
 use std::alloc::{AllocError, Global};
 use std::collections::VecDeque;
@@ -35,26 +34,26 @@ pub struct FifoState {
     /// The entries of the updates before the cycle, and of what was read in it.
     pub history: Vec<Entry>,
     /// Data written.
-    pub puts: Event,
+    pub puts: Notice,
     /// Data read.
-    pub takes: Event,
+    pub takes: Notice,
 }
 
 impl FifoState {
-    ghost use Rattle.ooo_channels.specs.Kept.{IsFifoIn, IsFifoAfter, IsFifoEvent, IsEventKept, AreFifoEventsBy};
+    ghost use Rattle.ooo_channels.specs.Kept.{IsFifoIn, IsFifoAfter, IsFifoEvent, FifoKeeps};
     ghost use Rattle.ooo_channels.specs.Room.{HasFifoRoom};
+    ghost use Rattle.ooo_channels.specs.declared.notices.Notice.TheVariants as notice;
     ghost use Rattle.ooo_channels.specs.Cycles.{Cycle, cycle_at, cycle_after, first_cycle, readable, writable, values_left};
 
-    /// A fifo as it starts, without values. It takes no memory.
+    /// A fifo as it starts, without values, which keeps none of its events. It takes no memory.
     pub fn new(alloc: Global, size: u32) -> FifoState
         ensures size { result.size ≡ size }
         ensures values { result.values.items ≡ [] }
         ensures counts { (result.read ≡ 0) × (result.written ≡ 0) }
         ensures stamp { result.stamp ≡ zero_stamp }
         ensures history { result.history.items ≡ [] }
-        ensures puts { (below : Stamp) → IsEventKept below result.puts [] }
-        ensures takes { (below : Stamp) → IsEventKept below result.takes [] }
-        ensures by { AreFifoEventsBy result }
+        ensures puts { result.puts ≡ notice.Unasked }
+        ensures takes { result.takes ≡ notice.Unasked }
         ensures room { HasFifoRoom 0 result }
     {
         FifoState {
@@ -64,14 +63,30 @@ impl FifoState {
             read: 0,
             written: 0,
             history: Vec::new(alloc),
-            puts: Event::new(alloc),
-            takes: Event::new(alloc),
+            puts: Notice::Unasked,
+            takes: Notice::Unasked,
+        }
+    }
+
+    /// Keeps an event of the fifo, on which there was no operation yet. It takes no memory.
+    pub fn ask(&mut self, alloc: Global, kind: BoundEvent)
+        ensures kept { FifoKeeps kind self.new }
+        ensures keeps { (k : EventSpec) → FifoKeeps k self.old → FifoKeeps k self.new }
+        ensures after { (c : ℕ) (below : Stamp) (x : Cycle) →
+            IsFifoAfter c below x (λ k. []) self.old → IsFifoAfter c below x (λ k. []) self.new }
+    {
+        match kind {
+            BoundEvent::Written(_) => self.puts = Notice::new(alloc),
+            BoundEvent::Taken(_) => self.takes = Notice::new(alloc),
+            BoundEvent::Own | BoundEvent::Changed(_) | BoundEvent::Rise(_) | BoundEvent::Fall(_) =>
+                {}
         }
     }
 
     /// The first firing after a stamp of an event of the fifo.
     pub fn first(&self, kind: BoundEvent, since: Stamp) -> Option<Stamp>
-        requires { IsFifoEvent kind }
+        requires is { IsFifoEvent kind }
+        requires kept { FifoKeeps kind self.now }
         ensures { (below : Stamp) (x : Cycle) (calls : EventSpec → List CallSpec) →
             IsFifoAfter (channel_of kind) below x calls self.now → ¬ IsBefore since below →
             IsFirstAfter (Fires (calls kind)) since result }
@@ -84,24 +99,24 @@ impl FifoState {
         }
     }
 
-    /// Appends the history up to the cycle of a stamp.
+    /// The history up to the cycle of a stamp. The fifo is used up, and its history isn't copied.
     ///
     /// # Errors
     ///
     /// Only where memory runs out.
-    pub fn append_history(&self, at: Stamp, out: &mut Vec<Entry>) -> Result<(), AllocError>
-        requires { (x : Cycle) × IsFifoIn self.now x }
-        ensures { OnOk result ((x : Cycle) → IsFifoIn self.now x →
-            out.new.items ≡ out.old.items ++ (cycle_at at x).history) }
+    pub fn into_history(mut self, at: Stamp) -> Result<Vec<Entry>, AllocError>
+        requires { (x : Cycle) × IsFifoIn self x }
+        ensures { IfOk result (λ h. (x : Cycle) → IsFifoIn self x →
+            h.items ≡ (cycle_at at x).history) }
     {
         if self.stamp.is_before(at) {
             let first = self.values.len() - self.written as usize;
-            out.extend_from_slice(self.history.as_slice())?;
-            append_written(out, self.stamp, &self.values, first)
+            append_written(&mut self.history, self.stamp, &self.values, first)?;
         } else {
             let settled = self.history.len() - self.read as usize;
-            out.extend_from_slice(&self.history.as_slice()[..settled])
+            self.history.truncate(settled);
         }
+        Ok(self.history)
     }
 
     /// How many values are not read yet.
@@ -150,7 +165,7 @@ impl FifoState {
 }
 
 impl FifoState {
-    ghost use Rattle.ooo_channels.specs.Kept.{IsFifoIn, IsFifoAfter, IsEventKept, AreFifoEventsBy};
+    ghost use Rattle.ooo_channels.specs.Kept.{IsFifoIn, IsFifoAfter, IsNoticeKept, AreFifoEventsBy, FifoKeeps};
     ghost use Rattle.ooo_channels.specs.Room.{HasFifoRoom};
     ghost use Rattle.ooo_channels.specs.Cycles.{Cycle, cycle_at, cycle_after, readable, writable};
 
@@ -187,6 +202,7 @@ impl FifoState {
         ensures kept { (m : ℕ) → HasFifoRoom m self.old → HasFifoRoom m self.new }
         ensures after { (c : ℕ) (below : Stamp) (x : Cycle) (calls : EventSpec → List CallSpec) →
             IsFifoAfter c below x calls self.old → IsFifoAfter c below x calls self.new }
+        ensures keeps { (k : EventSpec) → FifoKeeps k self.old → FifoKeeps k self.new }
     {
         let history = self
             .history
@@ -214,17 +230,18 @@ impl FifoState {
         ensures written { 1 ≤ self.new.written }
 
         // Data written is notified, and data read is as it was.
-        ensures puts { (calls : List CallSpec) → IsEventKept below self.old.puts calls →
+        ensures puts { (calls : List CallSpec) → IsNoticeKept below self.old.puts calls →
             let made = call.Notify at (record { 0 = 0 }) in
-            IsEventKept below self.new.puts (calls ++ made ∷ []) }
+            IsNoticeKept below self.new.puts (calls ++ made ∷ []) }
         ensures takes { self.new.takes ≡ self.old.takes }
 
+        ensures keeps { (k : EventSpec) → FifoKeeps k self.old → FifoKeeps k self.new }
         ensures room { (n : ℕ) → HasFifoRoom (n + 1) self.old → HasFifoRoom n self.new }
     {
         self.move_to(at);
         self.values.push_back_reserved(value);
         self.written += 1;
-        make(&mut self.puts, Call::Notify(at, Time::ZERO), below);
+        self.puts.renew(at, true, below);
     }
 
     /// Takes a value in the cycle of a stamp, which isn't before the last one.
@@ -245,11 +262,12 @@ impl FifoState {
         ensures read { 1 ≤ self.new.read }
 
         // Data read is notified, and data written is as it was.
-        ensures takes { (calls : List CallSpec) → IsEventKept below self.old.takes calls →
+        ensures takes { (calls : List CallSpec) → IsNoticeKept below self.old.takes calls →
             let made = call.Notify at (record { 0 = 0 }) in
-            IsEventKept below self.new.takes (calls ++ made ∷ []) }
+            IsNoticeKept below self.new.takes (calls ++ made ∷ []) }
         ensures puts { self.new.puts ≡ self.old.puts }
 
+        ensures keeps { (k : EventSpec) → FifoKeeps k self.old → FifoKeeps k self.new }
         ensures room { (n : ℕ) → HasFifoRoom (n + 1) self.old → HasFifoRoom n self.new }
     {
         self.move_to(at);
@@ -261,7 +279,7 @@ impl FifoState {
             value,
         });
         self.read += 1;
-        make(&mut self.takes, Call::Notify(at, Time::ZERO), below);
+        self.takes.renew(at, true, below);
     }
 }
 

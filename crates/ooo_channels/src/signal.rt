@@ -15,8 +15,7 @@ ghost use Rattle.ooo_events.specs.Firings.{Fires, IsFirstAfter};
 ghost use Rattle.ooo_value.specs.declared.bound.BoundEvent.{BoundEvent as EventSpec};
 ghost use Rattle.ooo_channels.specs.Calls.{channel_of, notifies, renewal};
 
-use crate::notices::{make, renewal_at};
-use ooo_events::Event;
+use crate::notices::Notice;
 use ooo_history::{Entry, What};
 use ooo_time::{Stamp, Time};
 use ooo_value::{BoundEvent, Kind, Value, convert, truth};
@@ -37,29 +36,29 @@ pub struct SignalState {
     /// The entries of the updates before it.
     pub history: Vec<Entry>,
     /// Value changed.
-    pub changes: Event,
+    pub changes: Notice,
     /// Changed to true.
-    pub rises: Event,
+    pub rises: Notice,
     /// Changed to false.
-    pub falls: Event,
+    pub falls: Notice,
 }
 
 impl SignalState {
-    ghost use Rattle.ooo_channels.specs.Kept.{signal_of, IsSignalIn, IsSignalAfter, IsSignalEvent, IsEventKept, AreSignalEventsBy};
+    ghost use Rattle.ooo_channels.specs.Kept.{signal_of, IsSignalIn, IsSignalAfter, IsSignalEvent, IsNoticeKept, AreSignalEventsBy, SignalKeeps};
     ghost use Rattle.ooo_channels.specs.Room.{HasSignalRoom};
+    ghost use Rattle.ooo_channels.specs.declared.notices.Notice.TheVariants as notice;
     ghost use Rattle.ooo_channels.specs.Cycles.{Cycle, cycle_at, cycle_after, first_cycle, IsSeenAs};
 
-    /// A signal as it starts, at 0 of its kind. It takes no memory.
+    /// A signal as it starts, at 0 of its kind, which keeps none of its events. It takes no memory.
     pub fn new(alloc: Global, kind: Kind) -> SignalState
         ensures value { result.current ≡ value_of kind (pos 0) }
         ensures fresh { result.requested ≡ None }
         ensures unchanged { result.changed ≡ None }
         ensures stamp { result.stamp ≡ zero_stamp }
         ensures history { result.history.items ≡ [] }
-        ensures changes { (below : Stamp) → IsEventKept below result.changes [] }
-        ensures rises { (below : Stamp) → IsEventKept below result.rises [] }
-        ensures falls { (below : Stamp) → IsEventKept below result.falls [] }
-        ensures by { AreSignalEventsBy result }
+        ensures changes { result.changes ≡ notice.Unasked }
+        ensures rises { result.rises ≡ notice.Unasked }
+        ensures falls { result.falls ≡ notice.Unasked }
         ensures room { HasSignalRoom 0 result }
     {
         SignalState {
@@ -68,9 +67,24 @@ impl SignalState {
             requested: None,
             changed: None,
             history: Vec::new(alloc),
-            changes: Event::new(alloc),
-            rises: Event::new(alloc),
-            falls: Event::new(alloc),
+            changes: Notice::Unasked,
+            rises: Notice::Unasked,
+            falls: Notice::Unasked,
+        }
+    }
+
+    /// Keeps an event of the signal, of which nothing was requested yet. It takes no memory.
+    pub fn ask(&mut self, alloc: Global, kind: BoundEvent)
+        ensures kept { SignalKeeps kind self.new }
+        ensures keeps { (k : EventSpec) → SignalKeeps k self.old → SignalKeeps k self.new }
+        ensures after { (c : ℕ) (below : Stamp) (x : Cycle) →
+            IsSignalAfter c below x (λ k. []) self.old → IsSignalAfter c below x (λ k. []) self.new }
+    {
+        match kind {
+            BoundEvent::Changed(_) => self.changes = Notice::new(alloc),
+            BoundEvent::Rise(_) => self.rises = Notice::new(alloc),
+            BoundEvent::Fall(_) => self.falls = Notice::new(alloc),
+            BoundEvent::Own | BoundEvent::Written(_) | BoundEvent::Taken(_) => {}
         }
     }
 
@@ -79,11 +93,13 @@ impl SignalState {
     /// # Errors
     ///
     /// Only where memory runs out.
+    #[inline(always)]
     pub fn reserve(&mut self, n: usize) -> Result<(), AllocError>
         ensures room { OnOk result (HasSignalRoom n self.new) }
         ensures kept { (m : ℕ) → HasSignalRoom m self.old → HasSignalRoom m self.new }
         ensures after { (c : ℕ) (below : Stamp) (x : Cycle) (calls : EventSpec → List CallSpec) →
             IsSignalAfter c below x calls self.old → IsSignalAfter c below x calls self.new }
+        ensures keeps { (k : EventSpec) → SignalKeeps k self.old → SignalKeeps k self.new }
     {
         let history = self.history.reserve(n);
         let changes = self.changes.reserve(n);
@@ -105,30 +121,32 @@ impl SignalState {
         ensures events { AreSignalEventsBy self.new }
 
         // The events are notified anew.
-        ensures changes { (calls : List CallSpec) → IsEventKept below self.old.changes calls →
+        ensures changes { (calls : List CallSpec) → IsNoticeKept below self.old.changes calls →
             let s = IsSignal (signal_of self.new) in
-            IsEventKept below self.new.changes (calls ++ renewal at (notifies (event.Changed 0) s) ∷ []) }
-        ensures rises { (calls : List CallSpec) → IsEventKept below self.old.rises calls →
+            IsNoticeKept below self.new.changes (calls ++ renewal at (notifies (event.Changed 0) s) ∷ []) }
+        ensures rises { (calls : List CallSpec) → IsNoticeKept below self.old.rises calls →
             let s = IsSignal (signal_of self.new) in
-            IsEventKept below self.new.rises (calls ++ renewal at (notifies (event.Rise 0) s) ∷ []) }
-        ensures falls { (calls : List CallSpec) → IsEventKept below self.old.falls calls →
+            IsNoticeKept below self.new.rises (calls ++ renewal at (notifies (event.Rise 0) s) ∷ []) }
+        ensures falls { (calls : List CallSpec) → IsNoticeKept below self.old.falls calls →
             let s = IsSignal (signal_of self.new) in
-            IsEventKept below self.new.falls (calls ++ renewal at (notifies (event.Fall 0) s) ∷ []) }
+            IsNoticeKept below self.new.falls (calls ++ renewal at (notifies (event.Fall 0) s) ∷ []) }
 
+        ensures keeps { (k : EventSpec) → SignalKeeps k self.old → SignalKeeps k self.new }
         ensures room { (n : ℕ) → HasSignalRoom (n + 1) self.old → HasSignalRoom n self.new }
     {
         self.move_to(at);
         self.requested = Some(value);
         let changes = self.is_changing();
         let up = truth(value);
-        make(&mut self.changes, renewal_at(at, changes), below);
-        make(&mut self.rises, renewal_at(at, changes && up), below);
-        make(&mut self.falls, renewal_at(at, changes && !up), below);
+        self.changes.renew(at, changes, below);
+        self.rises.renew(at, changes && up, below);
+        self.falls.renew(at, changes && !up, below);
     }
 
     /// The first firing after a stamp of an event of the signal.
     pub fn first(&self, kind: BoundEvent, since: Stamp) -> Option<Stamp>
-        requires { IsSignalEvent kind }
+        requires is { IsSignalEvent kind }
+        requires kept { SignalKeeps kind self.now }
         ensures { (below : Stamp) (x : Cycle) (calls : EventSpec → List CallSpec) →
             IsSignalAfter (channel_of kind) below x calls self.now → ¬ IsBefore since below →
             IsFirstAfter (Fires (calls kind)) since result }
@@ -141,24 +159,24 @@ impl SignalState {
         }
     }
 
-    /// Appends the history up to the cycle of a stamp.
+    /// The history up to the cycle of a stamp. The signal is used up, and its history isn't copied.
     ///
     /// # Errors
     ///
     /// Only where memory runs out.
-    pub fn append_history(&self, at: Stamp, out: &mut Vec<Entry>) -> Result<(), AllocError>
-        ensures { OnOk result ((x : Cycle) → IsSignalIn self.now x →
-            out.new.items ≡ out.old.items ++ (cycle_at at x).history) }
+    pub fn into_history(mut self, at: Stamp) -> Result<Vec<Entry>, AllocError>
+        ensures { IfOk result (λ h. (x : Cycle) → IsSignalIn self x →
+            h.items ≡ (cycle_at at x).history) }
     {
-        out.extend_from_slice(self.history.as_slice())?;
         if self.stamp.is_before(at) && self.is_changing() {
-            out.push(Entry {
+            let entry = Entry {
                 stamp: self.stamp,
                 what: What::Changed,
                 value: self.next_value(),
-            })?;
+            };
+            self.history.push(entry)?;
         }
-        Ok(())
+        Ok(self.history)
     }
 
     /// The value after the update of the cycle.
@@ -237,7 +255,14 @@ fn is_next(at: Stamp, stamp: Stamp) -> bool
 fn is_same(a: Value, b: Value) -> bool
     ensures { result ≡ same_value a b }
 {
-    number(a) == number(b)
+    match (a, b) {
+        (Value::Bool(x), Value::Bool(y)) => x == y,
+        (Value::Int(x), Value::Int(y)) => x == y,
+        (Value::Uint(x), Value::Uint(y)) => x == y,
+        (Value::Long(x), Value::Long(y)) => x == y,
+        (Value::Ulong(x), Value::Ulong(y)) => x == y,
+        _ => number(a) == number(b),
+    }
 }
 
 /// The number that a value stands for.

@@ -250,18 +250,23 @@ impl Trial {
     }
 
     /// The history of the channel up to the cycle of a stamp.
-    fn history(&self, alloc: Global, now: Stamp) -> Result<Vec<Entry>, AllocError>
-        requires { IsTrial self.now.kind self.now.bank self.now.last }
+    fn history(self, alloc: Global, now: Stamp) -> Result<Items<Entry>, AllocError>
+        requires { IsTrial self.kind self.bank self.last }
     {
-        self.bank.history(alloc, 0, now)
+        let mut histories = self.bank.into_histories(alloc, now)?;
+        match histories.pop() {
+            Some(history) => Ok(history),
+            None => Ok(Items::new(alloc)),
+        }
     }
 
     /// The entries of that history: the stamp of each, what happened, and the value.
-    fn entries(&self, alloc: Global, now: Stamp) -> Result<Vec<(Stamp, What, Value)>, AllocError>
-        requires { IsTrial self.now.kind self.now.bank self.now.last }
+    fn entries(self, alloc: Global, now: Stamp) -> Result<Vec<(Stamp, What, Value)>, AllocError>
+        requires { IsTrial self.kind self.bank self.last }
     {
+        let history = self.history(alloc, now)?;
         let mut told = Vec::new(alloc);
-        for entry in &self.history(alloc, now)? {
+        for entry in history.as_slice() {
             told.push((entry.stamp, entry.what, entry.value))?;
         }
         Ok(told)
@@ -293,14 +298,9 @@ fn signal_written_twice(rt: HostRuntime) -> Result<(), Fail> {
         (at(0, 1), First(0, None)),
     ])?;
     assert_eq!(rt; wrong, None);
-    let history = trial.history(rt.alloc(), at(9, 0))?;
-    assert_eq!(rt; history.len(), 1);
-    let changed = Entry {
-        stamp: at(0, 0),
-        what: What::Changed,
-        value: Value::Int(7),
-    };
-    assert_eq!(rt; history[0], changed);
+    let told = trial.entries(rt.alloc(), at(9, 0))?;
+    let expected = [(at(0, 0), What::Changed, Value::Int(7))];
+    assert_eq!(rt; told.as_slice(), expected.as_slice());
     Ok(())
 }
 
@@ -476,7 +476,22 @@ fn history_of_a_fifo(rt: HostRuntime) -> Result<(), Fail> {
         (at(1, 0), What::Put, Value::Int(3)),
     ];
     assert_eq!(rt; told.as_slice(), expected.as_slice());
-    assert_eq!(rt; trial.history(rt.alloc(), at(1, 0))?.len(), 2);
+    Ok(())
+}
+
+// Nothing stands in the history that was read or written in the cycle up to which it is asked.
+#[test]
+fn history_before_the_last_cycle(rt: HostRuntime) -> Result<(), Fail> {
+    let mut trial = Trial::new(rt.alloc(), ChannelKind::Fifo, Kind::Int, 3)?;
+    let wrong = trial.first_wrong(&[
+        (at(0, 0), Does(Effect::Put(0, Value::Int(1)))),
+        (at(1, 0), Does(Effect::Put(0, Value::Int(2)))),
+        (at(1, 0), Does(Effect::Take(0))),
+    ])?;
+    assert_eq!(rt; wrong, None);
+    let told = trial.entries(rt.alloc(), at(1, 0))?;
+    let expected = [(at(0, 0), What::Put, Value::Int(1))];
+    assert_eq!(rt; told.as_slice(), expected.as_slice());
     Ok(())
 }
 
@@ -491,7 +506,7 @@ fn fifo_wraps(rt: HostRuntime) -> Result<(), Fail> {
     }
     let history = trial.history(rt.alloc(), at(4_000, 0))?;
     assert_eq!(rt; history.len(), 100_000);
-    for (n, entry) in history.iter().enumerate() {
+    for (n, entry) in history.as_slice().iter().enumerate() {
         let (what, number) = told(n);
         assert_eq!(rt; entry.what, what);
         assert_eq!(rt; entry.value, Value::Uint(number));

@@ -90,9 +90,9 @@ module _ (laws : Laws) (design : Design) (limits : Limits) (e : Engine) (h : Sta
   pub over_first : (w : World) × IsOver design e zero_stamp w
   over_first = (first_world_of design, over0)
 
-  pub shows_idle : (r : Run) → ShowsOver design e zero_stamp (end.Idle zero_stamp) r → ShowsRun design limits r
+  pub shows_idle : (r : Run) → ShowsOver e zero_stamp (end.Idle zero_stamp) r → ShowsRun design limits r
   shows_idle r s = record {
     result = result_of (first_world_of design) (end.Idle zero_stamp);
     is = record { cycles = 0; is = whole_idle (by_nodes design limits.statements) (ascending design) limits (start_of design) idle0 };
-    shows = s (first_world_of design) over0;
+    shows = s design (first_world_of design) over0;
   }

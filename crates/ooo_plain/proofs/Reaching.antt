@@ -49,7 +49,7 @@ fewer_follow design limits old new c = c.nears.1
 pub is_over : (design : Design) (limits : Limits) (end : End) (at : Stamp) (old new : Engine) → Cycles design limits (then.Over end at) old new → Reaches design limits old → (w : World) × IsOver design new at w
 is_over design limits end at old new c h = let f = c.each h.world h.turns.ops h.turns.mirrors h.turns.planned in (f.world, f.over)
 
-pub shows_run : (design : Design) (limits : Limits) (end : End) (at : Stamp) (old new : Engine) (run : Run) → Cycles design limits (then.Over end at) old new → Reaches design limits old → ShowsOver design new at end run → ShowsRun design limits run
+pub shows_run : (design : Design) (limits : Limits) (end : End) (at : Stamp) (old new : Engine) (run : Run) → Cycles design limits (then.Over end at) old new → Reaches design limits old → ShowsOver new at end run → ShowsRun design limits run
 shows_run design limits end at old new run c h s =
     let f = c.each h.world h.turns.ops h.turns.mirrors h.turns.planned in
-    record { result = result_of f.world end; is = h.run (result_of f.world end) f.run; shows = s f.world f.over }
+    record { result = result_of f.world end; is = h.run (result_of f.world end) f.run; shows = s design f.world f.over }

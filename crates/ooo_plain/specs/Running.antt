@@ -1,17 +1,13 @@
 -- The run of a design, as the plain engine gives it.
-use Rattle.std.specs.Prelude.{◌≡◌, ℕ, ◌+◌, ◌*◌, ◌<◌, ◌≤◌, List, length, slice_index_or}
+use Rattle.std.specs.Prelude.{◌+◌, ◌*◌, ◌≤◌, length}
 use Rattle.ooo_time.specs.declared.stamp.Stamp.{Stamp}
 use Rattle.ooo_code.specs.declared.design.Design.{Design}
 use Rattle.ooo_code.specs.declared.limits.Limits.{Limits}
 use Rattle.ooo_history.specs.declared.run.End.{End}
-use Rattle.ooo_history.specs.declared.run.Entry.{Entry}
 use Rattle.ooo_history.specs.declared.run.Run.{Run}
 use Rattle.ooo_meaning.specs.World.{World, zero_stamp}
 use Rattle.ooo_meaning.specs.Sequence.{Result, result_of}
 use Rattle.ooo_meaning.specs.Runs.{IsSequentialRun, Shows}
-use Rattle.ooo_channels.specs.Operations.{Operations}
-use Rattle.ooo_channels.specs.Cycles.{history_in}
-use Rattle.ooo_channels.specs.Bank.{BankState, IsBankAfter}
 use Rattle.ooo_plain.specs.declared.engine.Engine.{Engine}
 use Rattle.ooo_plain.specs.Engine.{Turns}
 use Rattle.ooo_plain.specs.Cycles.{GivesFrom, IsOver, IsWithin, cycles_after}
@@ -23,19 +19,8 @@ pub record ShowsRun (design : Design) (limits : Limits) (run : Run) : Type 0 whe
   pub shows : Shows run result
 
 -- a run shows what a run gives that is over in a world
-abbrev pub ShowsOver : Design → Engine → Stamp → End → Run → Type 0
-ShowsOver design e at end run = (w : World) → IsOver design e at w → Shows run (result_of w end)
-
--- the histories of the first n channels of a bank, up to the cycle of a stamp
-pub record AreHistories (bank : BankState) (at : Stamp) (n : ℕ) (histories : List (List Entry)) : Type 0 where
-  pub count : length histories ≡ n
-  pub each : (ops : Operations) → IsBankAfter bank ops → (c : ℕ) (d : List Entry) → c < n → slice_index_or histories c d ≡ history_in at ops c
-
--- the operations of a bank with so many channels
-pub record MayTell (bank : BankState) (n : ℕ) : Type 0 where
-  pub ops : Operations
-  pub bank_is : IsBankAfter bank ops
-  pub count : length ops.channels ≡ n
+abbrev pub ShowsOver : Engine → Stamp → End → Run → Type 0
+ShowsOver e at end run = (design : Design) (w : World) → IsOver design e at w → Shows run (result_of w end)
 
 -- what the run gives from where the engine is, the sequential run of the design gives
 pub record Reaches (design : Design) (limits : Limits) (e : Engine) : Type 0 where

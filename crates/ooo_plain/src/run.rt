@@ -1,19 +1,19 @@
-ghost use Rattle.std.specs.Prelude.{◌≡◌, ◌<◌, ◌^◌, IfOk, IsTrue};
+ghost use Rattle.std.specs.Prelude.{◌≡◌, IfOk, IsTrue};
 ghost use Rattle.std.specs.List.{list_any};
+ghost use Rattle.ooo_code.specs.declared.design.Design.{Design as DesignSpec};
 ghost use Rattle.ooo_code.specs.Sound.{IsSound};
 ghost use Rattle.ooo_meaning.specs.World.{World};
 ghost use Rattle.ooo_history.specs.Reporting.{output_text};
 ghost use Rattle.ooo_plain.specs.Engine.{IsFew};
 ghost use Rattle.ooo_plain.specs.Cycles.{AreInRange, IsOver};
-ghost use Rattle.ooo_plain.specs.Running.{ShowsRun, ShowsOver, AreHistories, MayTell, Reaches};
+ghost use Rattle.ooo_plain.specs.Running.{ShowsRun, ShowsOver, Reaches};
 
 use crate::cycles::Then;
 use crate::engine::Engine;
 use crate::laws::laws;
 use crate::starting::start;
-use ooo_channels::Bank;
 use ooo_code::{Design, Limits, Proc};
-use ooo_history::{End, Entry, Piece, Run};
+use ooo_history::{End, Piece, Run};
 use ooo_time::{Place, Stamp, Time};
 use sqlite_items::Items;
 use std::alloc::{AllocError, Global};
@@ -43,7 +43,7 @@ pub fn run_plain(alloc: Global, design: &Design, limits: Limits) -> Result<Run, 
         time: Time::ZERO,
         delta: 0,
     };
-    let run = finish(alloc, design, engine, End::Idle(zero), zero)?;
+    let run = finish(alloc, engine, End::Idle(zero), zero)?;
     Ok(run)
 }
 
@@ -84,7 +84,7 @@ pub fn run_on(
     'cycles: loop {
         match engine.cycle(alloc, design, &limits)? {
             Then::Over(end, at) => {
-                let run = finish(alloc, design, engine, end, at)?;
+                let run = finish(alloc, engine, end, at)?;
                 return Ok(run);
             }
             Then::Goes => {}
@@ -98,18 +98,11 @@ pub fn run_on(
 /// # Errors
 ///
 /// Only where memory runs out.
-pub fn finish(
-    alloc: Global,
-    design: &Design,
-    engine: Engine,
-    end: End,
-    at: Stamp,
-) -> Result<Run, AllocError>
-    requires few { IsFew design.now }
-    requires over { (w : World) × IsOver design.now engine at w }
-    ensures { IfOk result (ShowsOver design.now engine at end) }
+pub fn finish(alloc: Global, engine: Engine, end: End, at: Stamp) -> Result<Run, AllocError>
+    requires { (design : DesignSpec) × (w : World) × IsOver design engine at w }
+    ensures { IfOk result (ShowsOver engine at end) }
 {
-    let channels = histories(alloc, &engine.bank, design.channels.len(), at)?;
+    let channels = engine.bank.into_histories(alloc, at)?;
     let activations = engine.activations;
     let pieces = one_piece(alloc, engine.output)?;
     Ok(Run {
@@ -137,23 +130,4 @@ fn one_piece(alloc: Global, output: Vec<u8>) -> Result<Items<Piece>, AllocError>
         bytes: Items::from_vec(output),
     })?;
     Ok(Items::from_vec(pieces))
-}
-
-// The history of each channel, up to the cycle of a stamp.
-fn histories(
-    alloc: Global,
-    bank: &Bank,
-    count: usize,
-    at: Stamp,
-) -> Result<Vec<Items<Entry>>, AllocError>
-    requires few { count < 2 ^ 32 }
-    requires may { MayTell bank.now count }
-    ensures { IfOk result (λ made. AreHistories bank.now at count made.items) }
-{
-    let mut made = Vec::new(alloc);
-    'channels: for c in 0..count {
-        let history = bank.history(alloc, c as u32, at)?;
-        made.push(Items::from_vec(history))?;
-    }
-    Ok(made)
 }

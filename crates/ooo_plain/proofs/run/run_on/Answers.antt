@@ -6,9 +6,11 @@ use Rattle.ooo_plain.proofs.run.run_on.Goals as goal
 pub cycle-requires-clause-counts : goal.cycle-requires-clause-counts
 cycle-requires-clause-counts c = counts_below c.args.design.now c.args.limits c.cycles.engine c.requires.few c.requires.range c.cycles.invariant
 
-pub finish-requires-clause-over : goal.finish-requires-clause-over
-finish-requires-clause-over c = is_over c.args.design.now c.args.limits c.in-Over.end c.in-Over.at c.cycles.engine c.cycle.new.self
-    (subst (λ t. Cycles c.args.design.now c.args.limits t c.cycles.engine c.cycle.new.self) c.in-Over.is c.in_ok-end.ensures) c.cycles.invariant
+pub finish-requires : goal.finish-requires
+finish-requires c =
+    let over = is_over c.args.design.now c.args.limits c.in-Over.end c.in-Over.at c.cycles.engine c.cycle.new.self
+    (subst (λ t. Cycles c.args.design.now c.args.limits t c.cycles.engine c.cycle.new.self) c.in-Over.is c.in_ok-end.ensures) c.cycles.invariant in
+    (c.args.design.now, over.0, over.1)
 
 pub returns-in-Over : goal.returns-in-Over
 returns-in-Over c = shows_run c.args.design.now c.args.limits c.in-Over.end c.in-Over.at c.cycles.engine c.cycle.new.self _

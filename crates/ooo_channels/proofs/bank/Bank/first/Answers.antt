@@ -5,7 +5,7 @@ use Rattle.ooo_channels.specs.Calls.{channel_calls, channel_of}
 use Rattle.ooo_channels.specs.Kept.{IsChannelAfter}
 use Rattle.ooo_channels.specs.Bank.{BankState, IsBankAfter}
 use Rattle.ooo_channels.proofs.Banked.{channel_kept}
-use Rattle.ooo_channels.proofs.Asking.{kind_there, event_channel_there, event_has, first_of_channel, first_of_own}
+use Rattle.ooo_channels.proofs.Asking.{kind_there, event_channel_there, event_has, event_kept, first_of_channel, first_of_own}
 use Rattle.ooo_channels.proofs.bank.Bank.first.Goals as goal
 
 pub first-requires : goal.first-requires
@@ -13,7 +13,10 @@ first-requires c =
     let may = c.requires in
     let i = c.self.inside in
     let h = subst (λ (b : BankState). IsBankAfter b may.0) (sym c.self.view_is) may.1 in
-    event_has i.channels.items i.kinds.items i.events.items i.below may.0 c.args.event c.index-kind.result.now c.in-Some.c _ h may.2 c.index-kind.ensures c.in-Some.ensures.0 c.in-Some.ensures.1 c.index-in-Some.ensures
+    record {
+      is = event_has i.channels.items i.kinds.items i.events.items i.below may.0 c.args.event c.index-kind.result.now c.in-Some.c _ h may.2 c.index-kind.ensures c.in-Some.ensures.0 c.in-Some.ensures.1 c.index-in-Some.ensures;
+      kept = event_kept i.channels.items i.kinds.items i.events.items i.below may.0 c.args.event c.index-kind.result.now c.in-Some.c _ h may.2 c.index-kind.ensures c.in-Some.ensures.0 c.in-Some.ensures.1 c.index-in-Some.ensures;
+    }
 
 pub returns-in-None : goal.returns-in-None
 returns-in-None c = λ ops was later.

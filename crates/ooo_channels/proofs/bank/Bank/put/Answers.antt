@@ -34,7 +34,7 @@ returns c =
     record {
       after = λ ops was may.
           let h = subst (λ (b : BankState). IsBankAfter b ops) (sym c.self.view_is) was in
-          channel_applied i.channels.items i.kinds.items i.events.items i.below ops c.args.at (effect.Put c.args.id c.args.value) c.args.id kind.Fifo c.put.new.self h may.names c.put.ensures.kind
+          channel_applied i.channels.items i.kinds.items i.events.items i.below ops c.args.at (effect.Put c.args.id c.args.value) c.args.id kind.Fifo _ c.put.new.self h may.names c.put.ensures.kind c.index_mut.ensures.value c.put.ensures.keeps
           (eq-eqb c.args.id c.args.id refl) (λ d ne. ne_eqb d c.args.id ne) (λ e. refl)
           (c.put.ensures.after c.args.id (cycle_of ops c.args.id) (channel_calls ops)
           (channel_kept i.channels.items i.kinds.items i.events.items i.below ops c.args.id _ h lt c.index_mut.ensures.value) may.in_order may.place);

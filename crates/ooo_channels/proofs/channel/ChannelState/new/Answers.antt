@@ -2,7 +2,7 @@ use Rattle.ooo_channels.proofs.Starts.{signal_starts, fifo_starts}
 use Rattle.ooo_channels.proofs.channel.ChannelState.new.Goals as goal
 
 pub returns-in-Signal-clause-first : goal.returns-in-Signal-clause-first
-returns-in-Signal-clause-first c = λ n below. signal_starts n below c.args.channel c.new.result c.in-Signal.is c.new.ensures.value c.new.ensures.fresh c.new.ensures.unchanged c.new.ensures.stamp c.new.ensures.history (c.new.ensures.changes below) (c.new.ensures.rises below) (c.new.ensures.falls below) c.new.ensures.by c.new.ensures.room
+returns-in-Signal-clause-first c = λ n below. signal_starts n below c.args.channel c.new.result c.in-Signal.is c.new.ensures.value c.new.ensures.fresh c.new.ensures.unchanged c.new.ensures.stamp c.new.ensures.history c.new.ensures.changes c.new.ensures.rises c.new.ensures.falls c.new.ensures.room
 
 pub returns-in-Fifo-clause-first : goal.returns-in-Fifo-clause-first
-returns-in-Fifo-clause-first c = λ n below. fifo_starts n below c.args.channel c.new-in-Fifo.result c.in-Fifo.is c.new-in-Fifo.ensures.size c.new-in-Fifo.ensures.values c.new-in-Fifo.ensures.counts c.new-in-Fifo.ensures.stamp c.new-in-Fifo.ensures.history (c.new-in-Fifo.ensures.puts below) (c.new-in-Fifo.ensures.takes below) c.new-in-Fifo.ensures.by c.new-in-Fifo.ensures.room
+returns-in-Fifo-clause-first c = λ n below. fifo_starts n below c.args.channel c.new-in-Fifo.result c.in-Fifo.is c.new-in-Fifo.ensures.size c.new-in-Fifo.ensures.values c.new-in-Fifo.ensures.counts c.new-in-Fifo.ensures.stamp c.new-in-Fifo.ensures.history c.new-in-Fifo.ensures.puts c.new-in-Fifo.ensures.takes c.new-in-Fifo.ensures.room

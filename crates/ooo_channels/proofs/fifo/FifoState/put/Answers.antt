@@ -1,4 +1,5 @@
 use Rattle.std.proofs.Common.{◌+◌, arith}
+use Rattle.ooo_channels.proofs.Applying.{HasNoticeRoom-less}
 use Rattle.ooo_channels.proofs.fifo.FifoState.put.Goals as goal
 
 pub returns-clause-room : goal.returns-clause-room
@@ -7,6 +8,6 @@ returns-clause-room c = λ n room.
     record {
       history = omega (arith, mid.history);
       values = omega (arith, mid.values, c.push_back_reserved.ensures.len, c.push_back_reserved.ensures.capacity);
-      puts = omega (arith, mid.puts, c.make.ensures.room);
-      takes = omega (arith, mid.takes);
+      puts = c.renew.ensures.room n mid.puts;
+      takes = HasNoticeRoom-less (n + 1) n _ (omega arith) mid.takes;
     }

@@ -2,6 +2,7 @@ use Rattle.std.proofs.Common.{◌≡◌, ◌+◌, ◌++◌, [], ◌∷◌, arith
 use Rattle.ooo_channels.specs.Cycles.{cycle_at}
 use Rattle.ooo_channels.specs.Entries.{took_entry}
 use Rattle.ooo_channels.proofs.Fifos.{taken_fifo, taken_fits}
+use Rattle.ooo_channels.proofs.Applying.{HasNoticeRoom-less}
 use Rattle.ooo_channels.proofs.fifo.FifoState.take.Goals as goal
 
 pub push_reserved-requires : goal.push_reserved-requires
@@ -28,6 +29,6 @@ returns-clause-room c = λ n room.
     record {
       history = omega (arith, mid.history, c.push_reserved.ensures.len, c.push_reserved.ensures.capacity);
       values = omega (arith, mid.values, c.pop_front.ensures.len, c.pop_front.ensures.capacity);
-      puts = omega (arith, mid.puts);
-      takes = omega (arith, mid.takes, c.make.ensures.room);
+      puts = HasNoticeRoom-less (n + 1) n _ (omega arith) mid.puts;
+      takes = c.renew.ensures.room n mid.takes;
     }

@@ -1,5 +1,6 @@
-use Rattle.std.proofs.Common.{arith, ap}
+use Rattle.std.proofs.Common.{◌+◌, ap, sym, subst}
 use Rattle.ooo_channels.specs.declared.signal.SignalState.{SignalState}
+use Rattle.ooo_channels.specs.Room.{HasNoticeRoom}
 use Rattle.ooo_channels.proofs.signal.SignalState.request.Goals as goal
 
 pub returns-clause-room : goal.returns-clause-room
@@ -7,7 +8,7 @@ returns-clause-room c = λ n room.
     let rest = c.move_to.ensures.rest in
     record {
       history = c.move_to.ensures.room n room.history;
-      changes = omega (arith, room.changes, c.make.ensures.room, ap (λ (s : SignalState). s.changes.spare) rest);
-      rises = omega (arith, room.rises, c.make-2.ensures.room, ap (λ (s : SignalState). s.rises.spare) rest);
-      falls = omega (arith, room.falls, c.make-3.ensures.room, ap (λ (s : SignalState). s.falls.spare) rest);
+      changes = c.renew.ensures.room n (subst (HasNoticeRoom (n + 1)) (sym (ap (λ (s : SignalState). s.changes) rest)) room.changes);
+      rises = c.renew-2.ensures.room n (subst (HasNoticeRoom (n + 1)) (sym (ap (λ (s : SignalState). s.rises) rest)) room.rises);
+      falls = c.renew-3.ensures.room n (subst (HasNoticeRoom (n + 1)) (sym (ap (λ (s : SignalState). s.falls) rest)) room.falls);
     }
