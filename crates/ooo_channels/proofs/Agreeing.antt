@@ -1,5 +1,5 @@
 -- Each effect of an activation keeps the agreement of the operations with the world.
-use Rattle.std.proofs.Common.{◌≡◌, ◌≢◌, ℕ, zero, suc, ◌<◌, ◌==◌, ◌++◌, Bool, true, false, cond, arith, List, [], ◌∷◌, Option, Some, None, refl, sym, subst, ap, ◌∙◌, eqb, length, get_or, append-nil}
+use Rattle.std.proofs.Common.{◌≡◌, ◌≢◌, ℕ, ◌<◌, ◌==◌, ◌++◌, Bool, true, false, cond, arith, List, [], ◌∷◌, Some, None, refl, sym, subst, ap, ◌∙◌, length, append-nil}
 use Rattle.std.specs.Prelude.{slice_set, slice_get}
 use Rattle.std.proofs.lemmas.Bool.{eqb-false}
 use Rattle.std.proofs.lemmas.Bool.Decides.{Decides-eqb}
@@ -7,7 +7,7 @@ use Rattle.std.proofs.lemmas.List.{get_or-set_same, get_or-set_other, length-set
 use Rattle.std.proofs.lemmas.Option.{slice_get_within}
 use Rattle.ooo_time.specs.declared.time.Time.{Time}
 use Rattle.ooo_time.specs.declared.stamp.Stamp.{Stamp}
-use Rattle.ooo_time.specs.Stamps.{IsBefore, is_before}
+use Rattle.ooo_time.specs.Stamps.{IsBefore}
 use Rattle.ooo_value.specs.declared.bound.BoundEvent.{BoundEvent}
 use Rattle.ooo_value.specs.declared.bound.BoundEvent.TheVariants as event
 use Rattle.ooo_events.specs.declared.call.Call.{Call}
@@ -20,11 +20,11 @@ use Rattle.ooo_code.specs.declared.activation.Effect.TheVariants as effect
 use Rattle.ooo_code.specs.Channels.{Channel, IsSignal, IsFifo}
 use Rattle.ooo_code.specs.Outcomes.{Deed}
 use Rattle.ooo_history.specs.declared.run.Entry.{Entry}
-use Rattle.ooo_meaning.specs.World.{World, slot_at, channel_at, no_channel, wait_at, apply, apply_all, after_deed}
+use Rattle.ooo_meaning.specs.World.{World, slot_at, channel_at, no_channel, apply, apply_all, after_deed}
 use Rattle.ooo_channels.specs.Operations.{Operations, after_effect, after_effects, is_on, is_call_on}
-use Rattle.ooo_channels.specs.Cycles.{Cycle, cycle_of, cycle_at, cycle_after, channel_in, history_in, acted}
+use Rattle.ooo_channels.specs.Cycles.{Cycle, cycle_of, cycle_at, cycle_after, channel_in, acted}
 use Rattle.ooo_channels.specs.Calls.{own_calls, own_call, channel_calls, channel_of, notifies, bears_on, renewal, renewals}
-use Rattle.ooo_channels.specs.Conditions.{HasChannel, ChannelIsBy, FitsChannels, Names, MayApply, MayApplyAll}
+use Rattle.ooo_channels.specs.Conditions.{ChannelIsBy, FitsChannels, Names, MayApplyAll}
 use Rattle.ooo_channels.specs.Agreement.{AreAlike, ChannelAgrees, OwnAgrees, NoticeAgrees, EventAgrees, Agrees, history_at}
 use Rattle.ooo_channels.proofs.Orders.{Earlier, earlier, not_earlier, earlier_or_not, IsBefore-irrefl}
 use Rattle.ooo_channels.proofs.Moves.{cycle_at-later, cycle_at-here}

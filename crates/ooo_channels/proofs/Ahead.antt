@@ -1,6 +1,6 @@
 -- What is pending is for the next delta cycle, or for a later time.
-use Rattle.std.proofs.Common.{◌≡◌, ◌≢◌, ℕ, zero, suc, ◌+◌, ◌<◌, ◌==◌, ◌||◌, Bool, true, false, not, cond, arith, List, [], ◌∷◌, Option, Some, None, map, refl, sym, subst, ap, ◌∙◌, eqb, ltb, length, get_or, ⊎_elim, eq-eqb}
-use Rattle.std.specs.Prelude.{slice_set, slice_get, nat_lt}
+use Rattle.std.proofs.Common.{◌≡◌, ℕ, zero, suc, ◌+◌, ◌<◌, ◌==◌, ◌||◌, Bool, true, false, cond, arith, List, [], ◌∷◌, Option, Some, None, refl, sym, subst, ap, ◌∙◌, get_or, ⊎_elim, eq-eqb}
+use Rattle.std.specs.Prelude.{slice_set, nat_lt}
 use Rattle.std.specs.List.{list_any}
 use Rattle.std.proofs.lemmas.Bool.{cases_eq, eqb-false}
 use Rattle.ooo_time.specs.declared.time.Time.{Time}
@@ -11,7 +11,7 @@ use Rattle.ooo_code.specs.declared.activation.Effect.TheVariants as effect
 use Rattle.ooo_code.specs.declared.activation.JobEnd.{JobEnd}
 use Rattle.ooo_code.specs.declared.activation.JobEnd.TheVariants as job
 use Rattle.ooo_events.specs.Slots.{Slot, Nothing, NextDelta, AtTime, due_of, slot_left_at, slot_after_delta, slot_after_timed, slot_after_notify}
-use Rattle.ooo_meaning.specs.World.{World, Wait, slot_at, wait_at, never, apply, apply_all, after_deed, timeout_of, wait_after, next_delta, same_stamp, is_at, is_due, awake, woken, sooner, least}
+use Rattle.ooo_meaning.specs.World.{World, Wait, slot_at, wait_at, never, apply, apply_all, after_deed, timeout_of, wait_after, next_delta, same_stamp, is_due, awake, woken, sooner, least}
 use Rattle.ooo_code.specs.Outcomes.{Deed}
 use Rattle.ooo_channels.specs.Agreement.{IsAhead, IsTimely}
 use Rattle.ooo_channels.proofs.Agreeing.{stamp-apply}

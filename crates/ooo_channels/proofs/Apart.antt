@@ -1,10 +1,9 @@
 -- Operations on one channel or event leave the others alone.
 use Rattle.std.proofs.Common.{◌≡◌, ◌++◌, ◌||◌, ℕ, Bool, true, false, cond, List, [], ◌∷◌, refl, ap, sym, subst, ◌∙◌, append-nil}
 use Rattle.std.specs.Prelude.{fold, filter, slice_get}
-use Rattle.std.specs.List.{list_any, flat_map}
+use Rattle.std.specs.List.{list_any}
 use Rattle.ooo_time.specs.declared.stamp.Stamp.{Stamp}
 use Rattle.ooo_value.specs.declared.bound.BoundEvent.{BoundEvent}
-use Rattle.ooo_events.specs.declared.call.Call.{Call}
 use Rattle.ooo_code.specs.declared.activation.Effect.{Effect}
 use Rattle.ooo_code.specs.declared.activation.Effect.TheVariants as effect
 use Rattle.ooo_channels.specs.Operations.{Operation, Operations, after_effect, after_effects, is_on, is_call_on}

@@ -1,5 +1,5 @@
 -- The operations of a bank as it is made agree with the world of a design before initialization.
-use Rattle.std.proofs.Common.{◌≡◌, ◌≢◌, ℕ, zero, suc, ◌+◌, ◌<◌, ◌==◌, Bool, true, false, cond, arith, List, [], ◌∷◌, Option, Some, None, refl, sym, subst, ap, ◌∙◌, length, get_or, map, replicate}
+use Rattle.std.proofs.Common.{◌≡◌, ℕ, zero, suc, ◌+◌, ◌<◌, ◌==◌, Bool, true, false, cond, arith, List, [], ◌∷◌, Option, Some, None, refl, sym, subst, ap, ◌∙◌, length, get_or, map, replicate}
 use Rattle.std.specs.Prelude.{slice_get, nat_lt, pos}
 use Rattle.std.proofs.Math.ListN.{get_or-map}
 use Rattle.std.proofs.lemmas.List.{length-replicate}
@@ -10,22 +10,20 @@ use Rattle.ooo_value.specs.declared.bound.BoundEvent.{BoundEvent}
 use Rattle.ooo_value.specs.declared.bound.BoundEvent.TheVariants as event
 use Rattle.ooo_value.specs.declared.bound.ChannelKind.{ChannelKind}
 use Rattle.ooo_value.specs.declared.bound.ChannelKind.TheVariants as channel
-use Rattle.ooo_events.specs.Slots.{Slot, Nothing, NextDelta, due_of}
+use Rattle.ooo_events.specs.Slots.{Nothing, NextDelta, due_of}
 use Rattle.ooo_code.specs.declared.design.Design.{Design}
 use Rattle.ooo_code.specs.declared.design.Proc.{Proc}
 use Rattle.ooo_code.specs.declared.limits.Limits.{Limits}
 use Rattle.ooo_value.specs.declared.values.Value.{Value}
 use Rattle.ooo_value.specs.Values.{value_of}
 use Rattle.ooo_code.specs.Expressions.{no_value}
-use Rattle.ooo_code.specs.Channels.{Channel, Signal, IsSignal, IsFifo, first_channel}
-use Rattle.ooo_history.specs.declared.run.Entry.{Entry}
+use Rattle.ooo_code.specs.Channels.{IsSignal, IsFifo, first_channel}
 use Rattle.ooo_history.specs.declared.run.End.TheVariants as end
-use Rattle.ooo_meaning.specs.World.{World, Wait, Progress, Over, Goes, slot_at, wait_at, channel_at, never, zero_stamp, some_runnable, least, least_activity, least_pending, advance, later, in_delta, notified}
+use Rattle.ooo_meaning.specs.World.{World, Wait, Over, Goes, slot_at, wait_at, channel_at, never, zero_stamp, some_runnable, least, least_activity, least_pending, advance, later, in_delta, notified}
 use Rattle.ooo_meaning.specs.Runs.{start_of, first_channels, first_wait}
 use Rattle.ooo_channels.specs.Operations.{Operations, no_operations}
-use Rattle.ooo_channels.specs.Cycles.{cycle_of, cycle_at, first_cycle, channel_in, history_in}
-use Rattle.ooo_channels.specs.Calls.{own_calls, channel_calls, channel_of, notifies, notified_by}
-use Rattle.ooo_channels.specs.Conditions.{ChannelIsBy, FitsChannels}
+use Rattle.ooo_channels.specs.Cycles.{cycle_of, cycle_at, first_cycle}
+use Rattle.ooo_channels.specs.Calls.{own_calls, channel_of, notifies, notified_by}
 use Rattle.ooo_channels.specs.Agreement.{AreAlike, ChannelAgrees, OwnAgrees, NoticeAgrees, EventAgrees, Agrees, IsAhead, IsTimely, HasHistories, GoesOn, history_at}
 use Rattle.ooo_channels.proofs.Orders.{IsBefore-irrefl}
 use Rattle.ooo_channels.proofs.Moves.{cycle_at-here}

@@ -1,26 +1,21 @@
 -- What is seen of a channel, and what effects and updates do to it, by its core.
-use Rattle.std.proofs.Common.{◌≡◌, ◌≢◌, ℕ, ◌==◌, ◌&&◌, ◌++◌, ◌<◌, ◌≤◌, Bool, true, false, not, cond, arith, List, [], ◌∷◌, Option, Some, None, refl, ap, sym, subst, ◌∙◌, append-nil, ⊎_elim, inl, inr, eq-eqb}
-use Rattle.std.specs.Prelude.{nat_lt, length, drop, ◌⊎◌}
+use Rattle.std.proofs.Common.{◌≡◌, ◌++◌, ◌<◌, Bool, true, false, cond, arith, [], Option, Some, None, refl, ap, sym, subst, ◌∙◌, append-nil, ⊎_elim, eq-eqb}
 use Rattle.std.proofs.lemmas.Bool.{ne_eqb}
 use Rattle.std.proofs.lemmas.Bool.Decides.{Decides-int_eq}
 use Rattle.ooo_time.specs.declared.time.Time.{Time}
 use Rattle.ooo_time.specs.declared.stamp.Stamp.{Stamp}
-use Rattle.ooo_time.specs.Stamps.{IsBefore, is_before}
+use Rattle.ooo_time.specs.Stamps.{IsBefore}
 use Rattle.ooo_value.specs.declared.values.Value.{Value}
 use Rattle.ooo_value.specs.Values.{number_of}
 use Rattle.ooo_value.specs.declared.bound.BoundEvent.{BoundEvent}
 use Rattle.ooo_value.specs.declared.bound.BoundEvent.TheVariants as event
 use Rattle.ooo_code.specs.declared.activation.Effect.{Effect}
 use Rattle.ooo_code.specs.declared.activation.Effect.TheVariants as effect
-use Rattle.ooo_code.specs.Channels.{Channel, Signal, Fifo, IsSignal, IsFifo, is_time, same_value, changes, next_value, updated, available}
-use Rattle.ooo_history.specs.declared.run.Entry.{Entry}
+use Rattle.ooo_code.specs.Channels.{Channel, IsSignal, IsFifo, is_time, same_value, changes, next_value, updated, available}
 use Rattle.ooo_meaning.specs.World.{same_stamp, next_delta, entries_of}
-use Rattle.ooo_channels.specs.Operations.{is_on}
-use Rattle.ooo_channels.specs.Cycles.{Cycle, cycle_at, later_channel, acted, readable, writable, values_left, IsSeenAs}
-use Rattle.ooo_channels.specs.Calls.{notifies, bears_on, channel_of}
+use Rattle.ooo_channels.specs.Cycles.{Cycle, later_channel, acted, readable, writable, values_left, IsSeenAs}
+use Rattle.ooo_channels.specs.Calls.{notifies}
 use Rattle.ooo_channels.specs.Agreement.{core, is_changed, AreAlike, IsNextStamp}
-use Rattle.ooo_channels.proofs.Orders.{is_before-yes, is_before-no, IsBefore-irrefl}
-use Rattle.ooo_channels.proofs.Moves.{channel-cycle_at, history-cycle_at, cycle_at-later, cycle_at-here}
 
 -- ---- what the core says
 

@@ -1,5 +1,5 @@
 -- The update, and the notifications of a later stamp, keep the agreement of the operations with the world.
-use Rattle.std.proofs.Common.{◌≡◌, ◌≢◌, ℕ, zero, suc, ◌<◌, ◌≤◌, ◌++◌, Bool, true, false, cond, arith, List, [], ◌∷◌, Option, Some, None, refl, sym, subst, ap, ◌∙◌, length, get_or, map, append-nil, ⊎_elim}
+use Rattle.std.proofs.Common.{◌≡◌, ◌≢◌, ℕ, zero, suc, ◌<◌, ◌++◌, Bool, true, false, cond, arith, List, [], ◌∷◌, Some, refl, sym, subst, ap, ◌∙◌, length, map, append-nil, ⊎_elim}
 use Rattle.std.specs.Prelude.{slice_get}
 use Rattle.std.proofs.Math.ListN.{get_or-map}
 use Rattle.std.proofs.lemmas.List.{length-map}
@@ -9,13 +9,12 @@ use Rattle.ooo_time.specs.Stamps.{IsBefore}
 use Rattle.ooo_value.specs.declared.bound.BoundEvent.{BoundEvent}
 use Rattle.ooo_value.specs.declared.bound.BoundEvent.TheVariants as event
 use Rattle.ooo_events.specs.Slots.{Slot, Nothing, NextDelta, due_of, slot_left_at, slot_after_delta}
-use Rattle.ooo_events.specs.Calls.{Follows, last_stamp}
 use Rattle.ooo_events.specs.Firings.{Fires, IsFirstAfter, slot_after}
 use Rattle.ooo_code.specs.Channels.{Channel, is_notified, updated}
 use Rattle.ooo_history.specs.declared.run.Entry.{Entry}
 use Rattle.ooo_meaning.specs.World.{World, slot_at, channel_at, no_channel, next_delta, entries_of, longer_histories, notified_slots, update, reach}
 use Rattle.ooo_channels.specs.Operations.{Operations}
-use Rattle.ooo_channels.specs.Cycles.{Cycle, cycle_of, cycle_at, later_channel, channel_in, history_in}
+use Rattle.ooo_channels.specs.Cycles.{Cycle, cycle_of, later_channel, channel_in, history_in}
 use Rattle.ooo_channels.specs.Calls.{own_calls, channel_calls, calls_of, calls_by, channel_of, notifies, FiresAt}
 use Rattle.ooo_channels.specs.Conditions.{ChannelIsBy, FitsChannels, HasEventAt}
 use Rattle.ooo_channels.specs.Agreement.{AreAlike, ChannelAgrees, OwnAgrees, NoticeAgrees, EventAgrees, Agrees, IsNextStamp, history_at}

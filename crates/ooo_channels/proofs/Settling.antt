@@ -1,22 +1,21 @@
 -- As a cycle ends, the operations agree with the next cycle's world, or have the histories of the run that is over.
-use Rattle.std.proofs.Common.{◌≡◌, ◌≢◌, ℕ, zero, suc, ◌<◌, ◌≤◌, ◌==◌, Bool, true, false, cond, arith, List, [], ◌∷◌, Option, Some, None, refl, sym, subst, ap, ◌∙◌, length, get_or, map, inl, inr}
-use Rattle.std.specs.Prelude.{slice_get, nat_lt}
-use Rattle.std.specs.List.{list_any}
+use Rattle.std.proofs.Common.{◌≡◌, ℕ, zero, suc, ◌<◌, ◌==◌, Bool, true, false, cond, arith, List, [], ◌∷◌, Option, Some, None, refl, sym, subst, ap, ◌∙◌, get_or, map, inl, inr}
+use Rattle.std.specs.Prelude.{nat_lt}
 use Rattle.std.proofs.Math.ListN.{get_or-map}
 use Rattle.std.proofs.lemmas.List.{length-map}
 use Rattle.ooo_time.specs.declared.stamp.Stamp.{Stamp}
 use Rattle.ooo_time.specs.Stamps.{IsBefore}
 use Rattle.ooo_value.specs.declared.bound.BoundEvent.{BoundEvent}
-use Rattle.ooo_events.specs.Slots.{Slot, Nothing, NextDelta, due_of, slot_left_at, slot_after_delta}
+use Rattle.ooo_events.specs.Slots.{Slot, Nothing, due_of, slot_left_at}
 use Rattle.ooo_code.specs.declared.limits.Limits.{Limits}
 use Rattle.ooo_code.specs.Channels.{Channel, is_notified}
 use Rattle.ooo_history.specs.declared.run.End.{End}
 use Rattle.ooo_history.specs.declared.run.End.TheVariants as end
-use Rattle.ooo_meaning.specs.World.{World, Wait, slot_at, wait_at, never, is_due, woken, next_delta, notified_slots, update, reach, some_runnable, least, sooner, least_activity, least_pending, Progress, Over, Goes, idle, advance, later, in_delta, notified, settle_at, settle}
+use Rattle.ooo_meaning.specs.World.{World, Wait, slot_at, wait_at, never, is_due, woken, next_delta, notified_slots, update, reach, some_runnable, least, least_activity, least_pending, Over, Goes, advance, later, in_delta, notified, settle_at, settle}
 use Rattle.ooo_channels.specs.Operations.{Operations}
 use Rattle.ooo_channels.specs.Agreement.{IsAhead, IsTimely, EventAgrees, Agrees, IsNextStamp, HasHistories, GoesOn, shown_up_to}
 use Rattle.ooo_channels.proofs.Slots.{left_twice}
-use Rattle.ooo_channels.proofs.Reaching.{channels_reached, length-longer, reached_agrees, next_is_later}
+use Rattle.ooo_channels.proofs.Reaching.{channels_reached, length-longer, reached_agrees}
 use Rattle.ooo_channels.proofs.Ahead.{left_ahead, left_timed, notified_ahead, Holds, holds_least, holds_sooner, From, from_least, from_sooner, woken_timeout, delta_stays, delta_timed, later_stays}
 
 -- ---- the slots and the time-outs after an update

@@ -1,9 +1,7 @@
 -- What the world shows of channels and events, and which effects are in order, where the operations agree with it.
-use Rattle.std.proofs.Common.{◌≡◌, ◌≢◌, ℕ, ◌<◌, List, [], Some, None, refl, sym, subst, ap, ◌∙◌, length}
-use Rattle.std.specs.Prelude.{slice_get}
+use Rattle.std.proofs.Common.{ℕ, ◌<◌, List, refl, sym, length}
 use Rattle.std.proofs.lemmas.Option.{slice_get_within}
 use Rattle.ooo_time.specs.declared.stamp.Stamp.{Stamp}
-use Rattle.ooo_value.specs.declared.values.Value.{Value}
 use Rattle.ooo_value.specs.declared.bound.BoundEvent.{BoundEvent}
 use Rattle.ooo_value.specs.declared.bound.BoundEvent.TheVariants as event
 use Rattle.ooo_events.specs.Slots.{Slot}
@@ -14,8 +12,8 @@ use Rattle.ooo_history.specs.declared.run.Entry.{Entry}
 use Rattle.ooo_meaning.specs.World.{World, slot_at, channel_at}
 use Rattle.ooo_channels.specs.Operations.{Operations, after_forgetting}
 use Rattle.ooo_channels.specs.Cycles.{channel_in, cycle_of}
-use Rattle.ooo_channels.specs.Calls.{own_calls, channel_calls, notified_by}
-use Rattle.ooo_channels.specs.Conditions.{Names, IsInOrder, FitsChannels}
+use Rattle.ooo_channels.specs.Calls.{own_calls, notified_by}
+use Rattle.ooo_channels.specs.Conditions.{Names, IsInOrder}
 use Rattle.ooo_channels.specs.Apart.{AreAllSame}
 use Rattle.ooo_channels.specs.Agreement.{ChannelAgrees, OwnAgrees, NoticeAgrees, EventAgrees, Agrees, IsShown, history_at}
 use Rattle.ooo_channels.proofs.Cores.{seen_alike, readable_alike, writable_alike, left_alike}

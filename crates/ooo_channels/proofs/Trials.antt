@@ -1,5 +1,5 @@
 -- A bank with one channel, as the tests of the bank use it.
-use Rattle.std.proofs.Common.{◌≡◌, ℕ, zero, suc, ◌<◌, ◌++◌, Bool, true, false, arith, List, [], ◌∷◌, Option, Some, None, refl, sym, subst, ap, ◌∙◌, append-nil, length}
+use Rattle.std.proofs.Common.{◌≡◌, ℕ, zero, suc, ◌<◌, ◌++◌, Bool, true, false, arith, List, [], ◌∷◌, Some, None, refl, sym, subst, ap, ◌∙◌, append-nil, length}
 use Rattle.std.specs.Prelude.{slice_get, Result, Ok, Err, IfOk, ◌≤◌}
 use Rattle.ooo_time.specs.declared.stamp.Stamp.{Stamp}
 use Rattle.ooo_time.specs.Stamps.{IsBefore}
@@ -20,7 +20,7 @@ use Rattle.ooo_channels.specs.Calls.{own_calls, own_call}
 use Rattle.ooo_channels.specs.Conditions.{HasChannel, HasEventAt, ChannelIsBy, Names, IsInOrder, FindsPlace, MayApply}
 use Rattle.ooo_channels.specs.Bank.{BankState, IsBankAfter}
 use Rattle.ooo_channels.specs.Trials.{trial_events, IsTrial, FitsTrial, MayTry}
-use Rattle.ooo_channels.proofs.Orders.{IsBefore-irrefl, IsBefore-from_not}
+use Rattle.ooo_channels.proofs.Orders.{IsBefore-irrefl}
 use Rattle.ooo_channels.proofs.Steps.{operation, cycle_of-other, own_calls-after}
 use Rattle.ooo_channels.proofs.Apart.{own_none}
 use Rattle.ooo_channels.proofs.Firsts.{follows-push}

@@ -1,7 +1,6 @@
 -- A bank with one channel, as the tests of the bank use it.
-use Rattle.std.specs.Prelude.{◌≡◌, ◌≤◌, ◌<◌, ℕ, List, [], ◌∷◌, ⊤, None, Some, slice_get}
+use Rattle.std.specs.Prelude.{◌≡◌, List, [], ◌∷◌, ⊤, None}
 use Rattle.ooo_time.specs.declared.stamp.Stamp.{Stamp}
-use Rattle.ooo_time.specs.Scales.{greatest_time}
 use Rattle.ooo_time.specs.Stamps.{IsBefore}
 use Rattle.ooo_value.specs.declared.bound.BoundChannel.{BoundChannel}
 use Rattle.ooo_value.specs.declared.bound.BoundEvent.{BoundEvent}
@@ -13,7 +12,7 @@ use Rattle.ooo_code.specs.declared.activation.Effect.{Effect}
 use Rattle.ooo_code.specs.declared.activation.Effect.TheVariants as effect
 use Rattle.ooo_channels.specs.Operations.{Operations}
 use Rattle.ooo_channels.specs.Calls.{own_calls}
-use Rattle.ooo_channels.specs.Conditions.{HasChannel, HasEventAt, ChannelIsBy, FindsPlace, IsCountableStamp}
+use Rattle.ooo_channels.specs.Conditions.{ChannelIsBy, FindsPlace, IsCountableStamp}
 use Rattle.ooo_channels.specs.Bank.{BankState, IsBankAfter}
 
 -- the events of a trial: those of the channel, and event 3 of the model's own

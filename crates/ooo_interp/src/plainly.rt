@@ -9,6 +9,7 @@ ghost use Rattle.ooo_interp.specs.declared.doing.Made.{Made as MadeSpec};
 ghost use Rattle.ooo_value.specs.Operators.{binary_of};
 ghost use Rattle.ooo_value.specs.declared.values.Value.TheVariants as ValueSpec;
 
+use crate::combining::combine;
 use crate::doing::Made;
 use crate::expressions::{evaluate, index_below};
 use crate::numbers::kinds::Operand;
@@ -170,7 +171,7 @@ fn plain_value<L: Lent>(lent: &L, e: &NodeExpr) -> Option<Value>
     }
 }
 
-// Whether a comparison of two numbers of one kind holds.
+// Whether a comparison holds.
 #[inline(always)]
 #[tactic(auto, unfolding(ooo_code::specs::Expressions::reading_of))]
 fn plain_truth<L: Lent>(lent: &L, e: &NodeExpr) -> Option<bool>
@@ -185,16 +186,16 @@ fn plain_truth<L: Lent>(lent: &L, e: &NodeExpr) -> Option<bool>
     }
 }
 
-// The same, where the left operand isn't an int.
+// The same, of any two operands.
 #[inline(never)]
 fn other_truth<L: Lent>(lent: &L, op: Op, a: &NodeExpr, b: &NodeExpr) -> Option<bool>
     ensures { let s = L.sight lent.now in IfSome result (λ t. Ok (ValueSpec.Bool t) ≡
         on_value (reading_of a.now s) (λ v. on_value (reading_of b.now s) (λ w. binary_of op v w))) }
 {
-    match evaluate(lent, a) {
-        Ok(Value::Uint(x)) => u32::compared(op, x, operand(lent, b)?),
-        Ok(Value::Long(x)) => i64::compared(op, x, operand(lent, b)?),
-        Ok(Value::Ulong(x)) => u64::compared(op, x, operand(lent, b)?),
+    let v = evaluate(lent, a).ok()?;
+    let w = evaluate(lent, b).ok()?;
+    match combine(op, v, w) {
+        Ok(Value::Bool(holds)) => Some(holds),
         _ => None,
     }
 }
