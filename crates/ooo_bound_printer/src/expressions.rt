@@ -3,6 +3,7 @@ use ooo_bound::{BoundExpr, BoundTarget, BoundTime, BoundWait};
 use std::alloc::AllocError;
 
 /// An expression, with its operator before its operands.
+#[cycle(expression)]
 pub(crate) fn expression(paper: &mut Paper, e: &BoundExpr) -> Result<(), AllocError> {
     match e {
         BoundExpr::Constant(value) => paper.value(*value),
@@ -20,51 +21,22 @@ pub(crate) fn expression(paper: &mut Paper, e: &BoundExpr) -> Result<(), AllocEr
             expression(paper, index.get())?;
             paper.put("]")
         }
-        BoundExpr::Convert(to, e) => {
-            begin(paper, kind_letters(*to))?;
-            expression(paper, e.get())?;
-            paper.put(")")
-        }
-        BoundExpr::Promote(e) => {
-            begin(paper, "+")?;
-            expression(paper, e.get())?;
-            paper.put(")")
-        }
-        BoundExpr::Negate(e) => {
-            begin(paper, "-")?;
-            expression(paper, e.get())?;
-            paper.put(")")
-        }
-        BoundExpr::Invert(e) => {
-            begin(paper, "~")?;
-            expression(paper, e.get())?;
-            paper.put(")")
-        }
-        BoundExpr::Not(e) => {
-            begin(paper, "!")?;
-            expression(paper, e.get())?;
-            paper.put(")")
-        }
+        BoundExpr::Convert(to, e) => on_one(paper, kind_letters(*to), e.get()),
+        BoundExpr::Promote(e) => on_one(paper, "+", e.get()),
+        BoundExpr::Negate(e) => on_one(paper, "-", e.get()),
+        BoundExpr::Invert(e) => on_one(paper, "~", e.get()),
+        BoundExpr::Not(e) => on_one(paper, "!", e.get()),
         BoundExpr::Binary(op, a, b) => {
-            begin(paper, operator_sign(*op))?;
-            expression(paper, a.get())?;
-            paper.put(" ")?;
-            expression(paper, b.get())?;
-            paper.put(")")
+            opened(paper, operator_sign(*op), a.get())?;
+            closed(paper, b.get())
         }
         BoundExpr::Both(a, b) => {
-            begin(paper, "&&")?;
-            expression(paper, a.get())?;
-            paper.put(" ")?;
-            expression(paper, b.get())?;
-            paper.put(")")
+            opened(paper, "&&", a.get())?;
+            closed(paper, b.get())
         }
         BoundExpr::Either(a, b) => {
-            begin(paper, "||")?;
-            expression(paper, a.get())?;
-            paper.put(" ")?;
-            expression(paper, b.get())?;
-            paper.put(")")
+            opened(paper, "||", a.get())?;
+            closed(paper, b.get())
         }
         BoundExpr::Choose(of, test, a, b) => {
             paper.put("(?")?;
@@ -78,6 +50,28 @@ pub(crate) fn expression(paper: &mut Paper, e: &BoundExpr) -> Result<(), AllocEr
             paper.put(")")
         }
     }
+}
+
+// An operator and its operand.
+#[cycle(expression)]
+fn on_one(paper: &mut Paper, sign: &str, e: &BoundExpr) -> Result<(), AllocError> {
+    opened(paper, sign, e)?;
+    paper.put(")")
+}
+
+// An operator and its first operand.
+#[cycle(expression)]
+fn opened(paper: &mut Paper, sign: &str, e: &BoundExpr) -> Result<(), AllocError> {
+    begin(paper, sign)?;
+    expression(paper, e)
+}
+
+// The last operand of an operator.
+#[cycle(expression)]
+fn closed(paper: &mut Paper, e: &BoundExpr) -> Result<(), AllocError> {
+    paper.put(" ")?;
+    expression(paper, e)?;
+    paper.put(")")
 }
 
 // What stands before an operator's operands.

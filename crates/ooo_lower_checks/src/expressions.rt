@@ -3,6 +3,7 @@ use ooo_code::{NodeExpr, NodeTime, NodeWait};
 use std::alloc::AllocError;
 
 /// An expression, with its operator before its operands.
+#[cycle(expression)]
 pub(crate) fn expression(paper: &mut Paper, e: &NodeExpr) -> Result<(), AllocError> {
     match e {
         NodeExpr::Constant(value) => paper.value(*value),
@@ -20,46 +21,21 @@ pub(crate) fn expression(paper: &mut Paper, e: &NodeExpr) -> Result<(), AllocErr
             expression(paper, index.get())?;
             paper.put("]")
         }
-        NodeExpr::Convert(to, e) => {
-            begin(paper, kind_letters(*to))?;
-            expression(paper, e.get())?;
-            paper.put(")")
-        }
-        NodeExpr::Negate(e) => {
-            begin(paper, "-")?;
-            expression(paper, e.get())?;
-            paper.put(")")
-        }
-        NodeExpr::Invert(e) => {
-            begin(paper, "~")?;
-            expression(paper, e.get())?;
-            paper.put(")")
-        }
-        NodeExpr::Not(e) => {
-            begin(paper, "!")?;
-            expression(paper, e.get())?;
-            paper.put(")")
-        }
+        NodeExpr::Convert(to, e) => on_one(paper, kind_letters(*to), e.get()),
+        NodeExpr::Negate(e) => on_one(paper, "-", e.get()),
+        NodeExpr::Invert(e) => on_one(paper, "~", e.get()),
+        NodeExpr::Not(e) => on_one(paper, "!", e.get()),
         NodeExpr::Binary(op, a, b) => {
-            begin(paper, operator_sign(*op))?;
-            expression(paper, a.get())?;
-            paper.put(" ")?;
-            expression(paper, b.get())?;
-            paper.put(")")
+            opened(paper, operator_sign(*op), a.get())?;
+            closed(paper, b.get())
         }
         NodeExpr::And(a, b) => {
-            begin(paper, "&&")?;
-            expression(paper, a.get())?;
-            paper.put(" ")?;
-            expression(paper, b.get())?;
-            paper.put(")")
+            opened(paper, "&&", a.get())?;
+            closed(paper, b.get())
         }
         NodeExpr::Or(a, b) => {
-            begin(paper, "||")?;
-            expression(paper, a.get())?;
-            paper.put(" ")?;
-            expression(paper, b.get())?;
-            paper.put(")")
+            opened(paper, "||", a.get())?;
+            closed(paper, b.get())
         }
         NodeExpr::Choose(test, a, b) => {
             begin(paper, "?")?;
@@ -71,6 +47,28 @@ pub(crate) fn expression(paper: &mut Paper, e: &NodeExpr) -> Result<(), AllocErr
             paper.put(")")
         }
     }
+}
+
+// An operator and its operand.
+#[cycle(expression)]
+fn on_one(paper: &mut Paper, sign: &str, e: &NodeExpr) -> Result<(), AllocError> {
+    opened(paper, sign, e)?;
+    paper.put(")")
+}
+
+// An operator and its first operand.
+#[cycle(expression)]
+fn opened(paper: &mut Paper, sign: &str, e: &NodeExpr) -> Result<(), AllocError> {
+    begin(paper, sign)?;
+    expression(paper, e)
+}
+
+// The last operand of an operator.
+#[cycle(expression)]
+fn closed(paper: &mut Paper, e: &NodeExpr) -> Result<(), AllocError> {
+    paper.put(" ")?;
+    expression(paper, e)?;
+    paper.put(")")
 }
 
 // What stands before an operator's operands.

@@ -60,13 +60,7 @@ fn step(paper: &mut Paper, kind: &NodeKind) -> Result<(), AllocError> {
     match kind {
         NodeKind::Set(slot, e) => assigned(paper, "$", *slot, e),
         NodeKind::Store(variable, None, e) => assigned(paper, "v", *variable, e),
-        NodeKind::Store(variable, Some(index), e) => {
-            paper.named("v", *variable)?;
-            paper.put("[")?;
-            expression(paper, index)?;
-            paper.put("] := ")?;
-            expression(paper, e)
-        }
+        NodeKind::Store(variable, Some(index), e) => stored(paper, *variable, index, e),
         NodeKind::Write(signal, e) => assigned(paper, "s", *signal, e),
         NodeKind::Test(e, other) => {
             paper.put("test ")?;
@@ -101,16 +95,36 @@ fn step(paper: &mut Paper, kind: &NodeKind) -> Result<(), AllocError> {
         NodeKind::End => paper.put("end"),
         NodeKind::TestAvailable(fifo, other) => tested(paper, "available ", *fifo, *other),
         NodeKind::TestFree(fifo, other) => tested(paper, "free ", *fifo, *other),
-        NodeKind::Take(fifo, slot) => {
-            paper.named("$", *slot)?;
-            paper.named(" := take ", *fifo)
-        }
-        NodeKind::Put(fifo, e) => {
-            paper.named("put ", *fifo)?;
-            paper.put(" ")?;
-            expression(paper, e)
-        }
+        NodeKind::Take(fifo, slot) => taken(paper, *fifo, *slot),
+        NodeKind::Put(fifo, e) => put(paper, *fifo, e),
     }
+}
+
+// An element of a variable, and the value that it gets.
+fn stored(
+    paper: &mut Paper,
+    variable: u32,
+    index: &NodeExpr,
+    e: &NodeExpr,
+) -> Result<(), AllocError> {
+    paper.named("v", variable)?;
+    paper.put("[")?;
+    expression(paper, index)?;
+    paper.put("] := ")?;
+    expression(paper, e)
+}
+
+// A local, and the fifo whose value it gets.
+fn taken(paper: &mut Paper, fifo: u32, slot: u32) -> Result<(), AllocError> {
+    paper.named("$", slot)?;
+    paper.named(" := take ", fifo)
+}
+
+// A fifo, and the value that is put into it.
+fn put(paper: &mut Paper, fifo: u32, e: &NodeExpr) -> Result<(), AllocError> {
+    paper.named("put ", fifo)?;
+    paper.put(" ")?;
+    expression(paper, e)
 }
 
 // A place, and the value that it gets.

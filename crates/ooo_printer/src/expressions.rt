@@ -1,24 +1,16 @@
 use crate::paper::Paper;
-use ooo_syntax::{BinaryOp, Expr, PrefixOp};
+use ooo_syntax::{BinaryOp, Expr, PrefixOp, TypeName, Word};
 use std::alloc::AllocError;
 
+#[cycle(expression)]
 pub(crate) fn expression(paper: &mut Paper, e: &Expr) -> Result<(), AllocError> {
     match e {
         Expr::Number(number) => paper.number(number),
         Expr::Truth(true, _) => paper.put("true"),
         Expr::Truth(false, _) => paper.put("false"),
         Expr::Name(name) => paper.word(name),
-        Expr::Paren(_, e) => {
-            paper.put("(")?;
-            expression(paper, e.get())?;
-            paper.put(")")
-        }
-        Expr::Index(name, index) => {
-            paper.word(name)?;
-            paper.put("[")?;
-            expression(paper, index.get())?;
-            paper.put("]")
-        }
+        Expr::Paren(_, e) => in_parens(paper, e.get()),
+        Expr::Index(name, index) => element(paper, name, index.get()),
         Expr::Call(name, args) => {
             paper.word(name)?;
             paper.put("(")?;
@@ -29,44 +21,62 @@ pub(crate) fn expression(paper: &mut Paper, e: &Expr) -> Result<(), AllocError> 
             paper.put(")")
         }
         Expr::Member(name, called, arg) => {
-            paper.word(name)?;
-            paper.put(".")?;
-            paper.word(called)?;
+            paper.member(name, called)?;
             paper.put("(")?;
             if let Some(arg) = arg {
                 expression(paper, arg.get())?;
             }
             paper.put(")")
         }
-        Expr::Prefix(_, op, e) => {
-            paper.put(prefix_sign(*op))?;
-            expression(paper, e.get())
-        }
-        Expr::Cast(_, form, e) => {
-            paper.put("(")?;
-            paper.type_name(form)?;
-            paper.put(")")?;
-            expression(paper, e.get())
-        }
+        Expr::Prefix(_, op, e) => behind(paper, prefix_sign(*op), e.get()),
+        Expr::Cast(_, form, e) => cast(paper, form, e.get()),
         Expr::Conversion(form, e) => {
             paper.type_name(form)?;
-            paper.put("(")?;
-            expression(paper, e.get())?;
-            paper.put(")")
+            in_parens(paper, e.get())
         }
         Expr::Binary(op, a, b) => {
             expression(paper, a.get())?;
-            paper.put(binary_sign(*op))?;
-            expression(paper, b.get())
+            behind(paper, binary_sign(*op), b.get())
         }
         Expr::Choose(c, a, b) => {
             expression(paper, c.get())?;
-            paper.put("?")?;
-            expression(paper, a.get())?;
-            paper.put(":")?;
-            expression(paper, b.get())
+            behind(paper, "?", a.get())?;
+            behind(paper, ":", b.get())
         }
     }
+}
+
+// An expression in parentheses.
+#[cycle(expression)]
+fn in_parens(paper: &mut Paper, e: &Expr) -> Result<(), AllocError> {
+    paper.put("(")?;
+    expression(paper, e)?;
+    paper.put(")")
+}
+
+// An element of an array.
+#[cycle(expression)]
+fn element(paper: &mut Paper, array: &Word, index: &Expr) -> Result<(), AllocError> {
+    paper.word(array)?;
+    paper.put("[")?;
+    expression(paper, index)?;
+    paper.put("]")
+}
+
+// An expression behind a type in parentheses.
+#[cycle(expression)]
+fn cast(paper: &mut Paper, form: &TypeName, e: &Expr) -> Result<(), AllocError> {
+    paper.put("(")?;
+    paper.type_name(form)?;
+    paper.put(")")?;
+    expression(paper, e)
+}
+
+// A sign, and the expression behind it.
+#[cycle(expression)]
+fn behind(paper: &mut Paper, sign: &str, e: &Expr) -> Result<(), AllocError> {
+    paper.put(sign)?;
+    expression(paper, e)
 }
 
 /// Expressions with commas between them.

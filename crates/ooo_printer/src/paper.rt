@@ -29,6 +29,13 @@ impl Paper {
         self.bytes(word.name.as_bytes())
     }
 
+    /// Adds the name of a thing, and behind a point what is called of it.
+    pub(crate) fn member(&mut self, thing: &Word, called: &Word) -> Result<(), AllocError> {
+        self.word(thing)?;
+        self.put(".")?;
+        self.word(called)
+    }
+
     /// Adds a number by its decimal digits and the suffix of its kind.
     pub(crate) fn number(&mut self, number: &Number) -> Result<(), AllocError> {
         self.gap()?;

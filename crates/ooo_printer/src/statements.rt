@@ -127,14 +127,10 @@ fn simple(paper: &mut Paper, done: &Simple) -> Result<(), AllocError> {
         }
         Simple::Call(name, args) => {
             paper.word(name)?;
-            paper.put("(")?;
-            expressions(paper, args.as_slice())?;
-            paper.put(")")
+            in_parens(paper, args.as_slice())
         }
         Simple::Member(name, called, arg) => {
-            paper.word(name)?;
-            paper.put(".")?;
-            paper.word(called)?;
+            paper.member(name, called)?;
             value_after(paper, "(", arg)?;
             paper.put(if arg.is_none() { "( )" } else { ")" })
         }
@@ -159,6 +155,13 @@ fn simple(paper: &mut Paper, done: &Simple) -> Result<(), AllocError> {
         Simple::Stop(_) => paper.put("sc_stop ( )"),
         Simple::Print(_, items) => printed(paper, items.as_slice()),
     }
+}
+
+// The arguments of a call.
+fn in_parens(paper: &mut Paper, args: &[Expr]) -> Result<(), AllocError> {
+    paper.put("(")?;
+    expressions(paper, args)?;
+    paper.put(")")
 }
 
 fn printed(paper: &mut Paper, items: &[PrintItem]) -> Result<(), AllocError> {
