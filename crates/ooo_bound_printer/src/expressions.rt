@@ -45,9 +45,7 @@ pub(crate) fn expression(paper: &mut Paper, e: &BoundExpr) -> Result<(), AllocEr
             expression(paper, test.get())?;
             paper.put(" ")?;
             expression(paper, a.get())?;
-            paper.put(" ")?;
-            expression(paper, b.get())?;
-            paper.put(")")
+            closed(paper, b.get())
         }
     }
 }
