@@ -31,7 +31,8 @@ use Rattle.ooo_code.specs.Touches.{Touch, Writes, ReadsSignal, HoldsReading, Hol
 use Rattle.ooo_code.specs.Segments.{leads_to}
 use Rattle.ooo_code.specs.Dependence.{SameVariables, DidTheSame, IsEffectOf, AreEffectsOf}
 use Rattle.ooo_code.proofs.Lists.{Every, every_left, every_right, set_alike}
-use Rattle.ooo_code.proofs.Sights.{signal_after_take, signal_after_put, left_of, free_of, values_after_take, free_after_take, values_after_put, free_after_put}
+use Rattle.ooo_code.specs.OwnSteps.{left_of, free_of}
+use Rattle.ooo_code.proofs.Sights.{signal_after_take, signal_after_put, values_after_take, free_after_take, values_after_put, free_after_put}
 use Rattle.ooo_code.proofs.Expressing.{SameSight, same_reading}
 
 module _ (T : Touch → Type 0) (first : List (List Value)) where

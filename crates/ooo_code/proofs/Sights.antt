@@ -6,6 +6,7 @@ use Rattle.ooo_code.specs.declared.activation.Seen.{Seen}
 use Rattle.ooo_code.specs.declared.activation.Seen.TheVariants as seen
 use Rattle.ooo_code.specs.Expressions.{signal_seen, fifo_seen}
 use Rattle.ooo_code.specs.Nodes.{seen_after_take, seen_after_put}
+use Rattle.ooo_code.specs.OwnSteps.{left_of, free_of}
 
 pub signal_after_take : (xs : List Seen) (b c : ℕ) → signal_seen (seen_after_take xs b) c ≡ signal_seen xs c
 signal_after_take [] b c = refl
@@ -26,14 +27,6 @@ signal_after_put (seen.Fifo d values free ∷ xs) b c = at (b == d) (signal_afte
     at : (t : Bool) → signal_seen (seen_after_put xs b) c ≡ signal_seen xs c → signal_seen ((if t then seen.Fifo d values (free - 1) else seen.Fifo d values free) ∷ seen_after_put xs b) c ≡ signal_seen xs c
     at true e = e
     at false e = e
-
--- what is left to take of a fifo after a take of fifo b
-abbrev pub left_of : (b c : ℕ) → List Value → List Value
-left_of b c values = if b == c then drop 1 values else values
-
--- what is free of a fifo after a put into fifo b
-abbrev pub free_of : (b c : ℕ) → ℕ → ℕ
-free_of b c free = if b == c then free - 1 else free
 
 nothing_left : (t : Bool) → let none : List Value = [] in none ≡ (if t then drop 1 none else none)
 nothing_left true = refl

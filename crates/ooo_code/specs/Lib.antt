@@ -1,6 +1,7 @@
 pub mod Outcomes
 pub mod Expressions
 pub mod Nodes
+pub mod OwnSteps
 pub mod Touches
 pub mod Channels
 pub mod Segments

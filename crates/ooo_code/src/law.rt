@@ -5,6 +5,7 @@ ghost use Rattle.ooo_code.specs.declared.activation.Frame.{Frame as FrameSpec};
 ghost use Rattle.ooo_code.specs.declared.design.Design.{Design as DesignSpec};
 ghost use Rattle.ooo_code.specs.declared.design.Proc.{Proc as ProcSpec};
 ghost use Rattle.ooo_code.specs.Dependence.{AgreeOn, DidTheSame, TouchesOnly};
+ghost use Rattle.ooo_code.specs.OwnSteps.{SeesOwnSteps};
 ghost use Rattle.ooo_code.specs.Nodes.{by_nodes, between, pass, Doing, Next, Running};
 ghost use Rattle.ooo_code.specs.Sound.{IsRanked};
 ghost use Rattle.ooo_code.specs.declared.node.Node.{Node as NodeSpec};
@@ -32,4 +33,10 @@ pub fn enough_nodes()
     ensures { (nodes : List NodeSpec) (r : Running) (counted : NodeSpec → Next) (m n : ℕ) (d : Doing) →
         IsRanked nodes → between nodes ≤ m →
         pass nodes r counted m n d ≡ pass nodes r counted (between nodes) n d }
+{}
+
+/// A process's own take leaves it one value less of that fifo, and its own put one free slot less; nothing else that it sees
+/// changes by them.
+pub fn own_steps_are_seen()
+    ensures { SeesOwnSteps }
 {}

@@ -1,5 +1,6 @@
 pub mod Acted
 pub mod Bitwise
+pub mod SignedBits
 pub mod Turned
 pub mod Drops
 pub mod Searched

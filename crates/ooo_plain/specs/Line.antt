@@ -1,4 +1,4 @@
--- A line of keys: the rows of delta cycles, and an ordered queue of all others.
+-- A line of processes, each with the stamp at which it is due: the rows of delta cycles, and an ordered queue of all others.
 use Rattle.std.specs.Prelude.{◌≡◌, ◌||◌, Bool, List, Option}
 use Rattle.std.specs.BTreeSet.{BTreeSet, contains}
 use Rattle.ooo_time.specs.declared.stamp.Stamp.{Stamp}
@@ -12,7 +12,7 @@ pub record LineState : Type 0 where
   pub rows : DeltasState
   pub others : BTreeSet Due
 
--- a key is in the line
+-- a process is in the line, as it is due
 abbrev pub is_in : LineState → Due → Bool
 is_in line k = stands_among line.rows k || contains due_cmp line.others k
 

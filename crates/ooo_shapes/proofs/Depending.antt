@@ -25,8 +25,7 @@ use Rattle.ooo_code.specs.Expressions.{no_value, signal_seen, fifo_seen, cells_o
 use Rattle.ooo_code.specs.Nodes.{with_first, if_free}
 use Rattle.ooo_code.specs.Outcomes.{View, Outcome}
 use Rattle.ooo_code.specs.Touches.{Touch, Writes, ReadsSignal, HoldsReading, HoldsWriting}
-use Rattle.ooo_code.proofs.Lists.{Every, every_left, every_right, every_contained, set_alike}
-use Rattle.ooo_code.proofs.Sights.{signal_after_take, signal_after_put, left_of, free_of, values_after_take, free_after_take, values_after_put, free_after_put}
+use Rattle.ooo_code.specs.OwnSteps.{SeesOwnSteps, left_of, free_of}
 use Rattle.ooo_bound.specs.declared.expr.BoundExpr.{BoundExpr}
 use Rattle.ooo_bound.specs.declared.model.Bound.{Bound}
 use Rattle.ooo_bound.specs.declared.model.BoundFunction.{BoundFunction}
@@ -46,6 +45,7 @@ use Rattle.ooo_activation.specs.Activations.{Place, Course, Setting, Next, Onwar
 use Rattle.ooo_activation.specs.Touches as text
 use Rattle.ooo_shapes.specs.Segments.{no_values, call_goes_to, goes_to, Comes, stays, call_reads, first_touches, Touches, without_values}
 use Rattle.ooo_shapes.proofs.Blanks.{entered_left, maybe_entered_left, body_left, opened_left, maybe_left, after_left, at_left, returned_left, come_on}
+use Rattle.ooo_shapes.proofs.Every.{Every, every_left, every_right, every_contained, set_alike}
 use Rattle.ooo_shapes.proofs.Evaluating.{SameSight, same_reading, same_time, same_wait}
 use Rattle.ooo_shapes.proofs.Trees.{in_one, in_two}
 
@@ -85,28 +85,28 @@ module _ (T : Touch → Type 0) (first : List (List Value)) where
   effect_same : (f : Effect) → IsEffectOf T f → (d e : Course) → SameCourse d e → SameCourse (with_effect f d) (with_effect f e)
   effect_same f t d e h = record { output = h.output; effects = ap (λ fs. fs ++ f ∷ []) h.effects; trigger = h.trigger; variables = h.variables; signals = h.signals; readable = h.readable; writable = h.writable; kept = h.kept; own = effects_last d.effects f h.own t }
 
-  take_same : (c : ℕ) → T (HoldsReading c) → (d e : Course) → SameCourse d e → SameCourse (with_take c d) (with_take c e)
-  take_same c t d e h = record {
+  take_same : SeesOwnSteps → (c : ℕ) → T (HoldsReading c) → (d e : Course) → SameCourse d e → SameCourse (with_take c d) (with_take c e)
+  take_same shows c t d e h = record {
     output = h.output;
     effects = ap (λ fs. fs ++ effect.Take c ∷ []) h.effects;
     trigger = h.trigger;
     variables = h.variables;
-    signals = λ s u. signal_after_take d.seen c s ∙ h.signals s u ∙ sym (signal_after_take e.seen c s);
-    readable = λ f u. values_after_take d.seen c f ∙ ap (left_of c f) (h.readable f u) ∙ sym (values_after_take e.seen c f);
-    writable = λ f u. free_after_take d.seen c f ∙ h.writable f u ∙ sym (free_after_take e.seen c f);
+    signals = λ s u. shows.signal_after_take d.seen c s ∙ h.signals s u ∙ sym (shows.signal_after_take e.seen c s);
+    readable = λ f u. shows.values_after_take d.seen c f ∙ ap (left_of c f) (h.readable f u) ∙ sym (shows.values_after_take e.seen c f);
+    writable = λ f u. shows.free_after_take d.seen c f ∙ h.writable f u ∙ sym (shows.free_after_take e.seen c f);
     kept = h.kept;
     own = effects_last d.effects (effect.Take c) h.own t;
   }
 
-  put_same : (c : ℕ) (v : Value) → T (HoldsWriting c) → (d e : Course) → SameCourse d e → SameCourse (with_put c v d) (with_put c v e)
-  put_same c v t d e h = record {
+  put_same : SeesOwnSteps → (c : ℕ) (v : Value) → T (HoldsWriting c) → (d e : Course) → SameCourse d e → SameCourse (with_put c v d) (with_put c v e)
+  put_same shows c v t d e h = record {
     output = h.output;
     effects = ap (λ fs. fs ++ effect.Put c v ∷ []) h.effects;
     trigger = h.trigger;
     variables = h.variables;
-    signals = λ s u. signal_after_put d.seen c s ∙ h.signals s u ∙ sym (signal_after_put e.seen c s);
-    readable = λ f u. values_after_put d.seen c f ∙ h.readable f u ∙ sym (values_after_put e.seen c f);
-    writable = λ f u. free_after_put d.seen c f ∙ ap (free_of c f) (h.writable f u) ∙ sym (free_after_put e.seen c f);
+    signals = λ s u. shows.signal_after_put d.seen c s ∙ h.signals s u ∙ sym (shows.signal_after_put e.seen c s);
+    readable = λ f u. shows.values_after_put d.seen c f ∙ h.readable f u ∙ sym (shows.values_after_put e.seen c f);
+    writable = λ f u. shows.free_after_put d.seen c f ∙ ap (free_of c f) (h.writable f u) ∙ sym (shows.free_after_put e.seen c f);
     kept = h.kept;
     own = effects_last d.effects (effect.Put c v) h.own t;
   }
@@ -263,7 +263,7 @@ module _ (T : Touch → Type 0) (first : List (List Value)) where
 
 -- ---- what remains
 
-module _ (b : Bound) (process : BoundProcess) (stamp : Stamp) (start : List Item) (first : List (List Value)) where
+module _ (shows : SeesOwnSteps) (b : Bound) (process : BoundProcess) (stamp : Stamp) (start : List Item) (first : List (List Value)) where
   abbrev T : Touch → Type 0
   T = Touches b start
 
@@ -341,7 +341,7 @@ module _ (b : Bound) (process : BoundProcess) (stamp : Stamp) (start : List Item
         first_alike T first (fifo_seen d.seen f).values (fifo_seen e.seen f).values (h.readable f taken.0) _ _
         (λ v. assign s t v line locals (with_take f d) (next rest)) (λ v. assign s t v line locals (with_take f e) (next rest))
         (ends_alike T first items locals _ d e h) (λ v.
-        assign_alike T first b process stamp t v line locals into (with_take f d) (with_take f e) (take_same T first f taken.0 d e h) (next rest) on)
+        assign_alike T first b process stamp t v line locals into (with_take f d) (with_take f e) (take_same T first shows f taken.0 d e h) (next rest) on)
     right_alike line t (right.NbRead f x) rest locals d e c h =
         let items = lined line (simple.Assign t (right.NbRead f x)) rest in
         let touched = first_touched items c in
@@ -356,7 +356,7 @@ module _ (b : Bound) (process : BoundProcess) (stamp : Stamp) (start : List Item
         (assign s t (value.Bool false) line locals d (next rest)) (assign s t (value.Bool false) line locals e (next rest))
         (λ v. assigned s x index v line locals (with_take f d) yes) (λ v. assigned s x index v line locals (with_take f e) yes)
         (assign_alike T first b process stamp t (value.Bool false) line locals into d e h (next rest) on) (λ v.
-        assigned_alike T first b process stamp x index v line locals aimed (with_take f d) (with_take f e) (take_same T first f taken.0 d e h) yes (λ locals d e h.
+        assigned_alike T first b process stamp x index v line locals aimed (with_take f d) (with_take f e) (take_same T first shows f taken.0 d e h) yes (λ locals d e h.
         assign_alike T first b process stamp t (value.Bool true) line locals into d e h (next rest) on)))
     right_alike line t (right.NbWrite f x) rest locals d e c h =
         let items = lined line (simple.Assign t (right.NbWrite f x)) rest in
@@ -371,7 +371,7 @@ module _ (b : Bound) (process : BoundProcess) (stamp : Stamp) (start : List Item
         (assign s t (value.Bool false) line locals d (next rest)) (assign s t (value.Bool false) line locals e (next rest))
         (assign s t (value.Bool true) line locals (with_put f w d) (next rest)) (assign s t (value.Bool true) line locals (with_put f w e) (next rest))
         (assign_alike T first b process stamp t (value.Bool false) line locals into d e h (next rest) on)
-        (assign_alike T first b process stamp t (value.Bool true) line locals into (with_put f w d) (with_put f w e) (put_same T first f w puts.0 d e h) (next rest) on))
+        (assign_alike T first b process stamp t (value.Bool true) line locals into (with_put f w d) (with_put f w e) (put_same T first shows f w puts.0 d e h) (next rest) on))
 
     update_alike : (line : ℕ) (t : BoundTarget) (op : Op) (x : BoundExpr) (rest : List Item) (locals : Locals) (d e : Course) → Come (lined line (simple.Update t op x) rest) → Same d e → Did (act_simple s (simple.Update t op x) line next (lined line (simple.Update t op x) rest) rest locals d) (act_simple s (simple.Update t op x) line next (lined line (simple.Update t op x) rest) rest locals e)
     update_alike line t op x rest locals d e c h =
@@ -418,7 +418,7 @@ module _ (b : Bound) (process : BoundProcess) (stamp : Stamp) (start : List Item
         let items = Putting line f v ∷ rest in
         let puts = first_touched items c in
         free_alike T first (fifo_seen d.seen f).free (fifo_seen e.seen f).free (h.writable f puts.0) _ _ (next rest locals (with_put f v d)) (next rest locals (with_put f v e))
-        (ends_alike T first items locals _ d e h) (passed items rest c refl locals (with_put f v d) (with_put f v e) (put_same T first f v puts.0 d e h))
+        (ends_alike T first items locals _ d e h) (passed items rest c refl locals (with_put f v d) (with_put f v e) (put_same T first shows f v puts.0 d e h))
     act_alike (Choose line x y z) rest locals d e c h =
         let items = Choose line x y z ∷ rest in
         let left = without_values rest in
@@ -510,7 +510,7 @@ module _ (b : Bound) (process : BoundProcess) (stamp : Stamp) (start : List Item
 
 -- ---- an activation
 
-module _ (b : Bound) (process : BoundProcess) (statements : ℕ) (place : Place) where
+module _ (shows : SeesOwnSteps) (b : Bound) (process : BoundProcess) (statements : ℕ) (place : Place) where
   abbrev touched : Touch → Type 0
   touched = Touches b (without_values place.items)
 
@@ -529,7 +529,7 @@ module _ (b : Bound) (process : BoundProcess) (statements : ℕ) (place : Place)
 
   activation_alike : (v w : View) → AgreeOn touched v w → Alike touched v.variables (act_found b statements (Some process) place v) (act_found b statements (Some process) place w)
   activation_alike v w h =
-      let same = steps_alike b process v.stamp (without_values place.items) v.variables statements place.items place.locals (course_at v) (course_at w) stays (begins v w h) in
+      let same = steps_alike shows b process v.stamp (without_values place.items) v.variables statements place.items place.locals (course_at v) (course_at w) stays (begins v w h) in
       subst (λ stamp. Alike touched v.variables (steps (record { model = b; process = process; stamp = v.stamp }) statements place.items place.locals (course_at v)) (steps (record { model = b; process = process; stamp = stamp }) statements place.items place.locals (course_at w))) h.stamp same
 
   agrees_with_itself : (v : View) → AgreeOn touched v v

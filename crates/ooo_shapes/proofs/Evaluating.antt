@@ -3,13 +3,13 @@ use Rattle.std.proofs.Common.{◌≡◌, ℕ, List, ◌++◌, Option, Some, None
 use Rattle.ooo_code.specs.Expressions.{signal_seen, fifo_seen, cells_of, time_by}
 use Rattle.ooo_code.specs.Nodes.{some_time}
 use Rattle.ooo_code.specs.Touches.{Touch, Reads, ReadsSignal, HoldsReading, HoldsWriting}
-use Rattle.ooo_code.proofs.Lists.{Every, every_left, every_right}
 use Rattle.ooo_bound.specs.declared.expr.BoundExpr.{BoundExpr, BoundExpr-F, ind-BoundExpr, map-BoundExpr, roll-BoundExpr, fold-roll-BoundExpr}
 use Rattle.ooo_bound.specs.declared.expr.BoundExpr.TheOpen as layer
 use Rattle.ooo_bound.specs.declared.expr.BoundTime.{BoundTime}
 use Rattle.ooo_bound.specs.declared.expr.BoundTime.TheVariants as time
 use Rattle.ooo_activation.specs.Expressions.{Sight, Reading, reading_step, reading_of, time_given, wait_time}
 use Rattle.ooo_activation.specs.Touches.{reads_step, reads_of, time_reads, wait_reads}
+use Rattle.ooo_shapes.proofs.Every.{Every, every_left, every_right}
 
 reading_at : (y : BoundExpr-F BoundExpr) (s : Sight) → reading_of (roll-BoundExpr y) s ≡ reading_step (map-BoundExpr BoundExpr Reading reading_of y) s
 unfolding reading_of

@@ -33,5 +33,6 @@ pub mod Doing
 pub mod Segments
 pub mod Blanks
 pub mod Pausing
+pub mod Every
 pub mod Evaluating
 pub mod Depending

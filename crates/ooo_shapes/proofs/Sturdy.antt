@@ -5,7 +5,6 @@ use Rattle.ooo_value.specs.declared.bound.ProcessKind.TheVariants.{Method}
 use Rattle.ooo_value.specs.declared.kinds.Kind.{Kind}
 use Rattle.ooo_value.specs.declared.values.Value.TheVariants as value
 use Rattle.ooo_value.specs.Values.{value_of}
-use Rattle.ooo_value.proofs.Conversions.{kind_of-value_of}
 use Rattle.ooo_code.specs.declared.expression.NodeExpr.TheVariants as node
 use Rattle.ooo_code.specs.declared.node.Node.{Node}
 use Rattle.ooo_code.specs.declared.node.NodeKind.{NodeKind}
@@ -42,7 +41,7 @@ use Rattle.ooo_shapes.proofs.Places.{SimpleFound, SimplesFound, FunctionFound, C
 use Rattle.ooo_shapes.proofs.Enter.{IsFull, begins_some, begins_end, after_begins, zero_full, argument_full, simple_full, lead_full, full_callees, simple_some, simple_back}
 use Rattle.ooo_shapes.proofs.Found.{all_at}
 use Rattle.ooo_shapes.proofs.Values.{lowered_at}
-use Rattle.ooo_shapes.proofs.Typing.{KindsAt, kinds_left, kinds_right, kinds_first, local_kind, kind_so, kind_Constant, converted_kind, kind_some}
+use Rattle.ooo_shapes.proofs.Typing.{kind_of-value_of, KindsAt, kinds_left, kinds_right, kinds_first, local_kind, kind_so, kind_Constant, converted_kind, kind_some}
 use Rattle.ooo_shapes.proofs.Naming.{some_of, Named, Typed_so, set_named, slot_typed, constant_typed, put_named, time_named, wait_named, wait_static}
 use Rattle.ooo_shapes.proofs.Flow.{Begins, begins_both, Enter, enters, Way, Flow, AllOk, all_both}
 use Rattle.ooo_shapes.proofs.Rooms.{put_begins, update_begins, leave_begins, aim_begins, Each, each_left, each_right, each_of, Room, ahead, from_counted, put_flow, leave_flow, read_ok, write_ok, nb_read_ok, nb_write_ok, update_ok, items_in, items_ok}

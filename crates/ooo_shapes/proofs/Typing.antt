@@ -1,5 +1,5 @@
 -- An expression in a node has the kind of the expression of the model.
-use Rattle.std.proofs.Common.{◌≡◌, ℕ, ◌+◌, ◌<◌, ◌≤◌, List, ◌∷◌, ◌++◌, length, Bool, Some, None, refl, sym, ap, ap₂, ◌∙◌, subst, arith, length-append, get_or}
+use Rattle.std.proofs.Common.{◌≡◌, ℕ, ℤ, ◌+◌, ◌<◌, ◌≤◌, List, ◌∷◌, ◌++◌, length, Bool, Some, None, refl, sym, ap, ap₂, ◌∙◌, subst, arith, length-append, get_or}
 use Rattle.std.specs.Prelude.{slice_get, option_map, pos, IsSome}
 use Rattle.std.proofs.lemmas.Option.{slice_get-get_or}
 use Rattle.ooo_value.specs.declared.kinds.Kind.{Kind}
@@ -10,8 +10,7 @@ use Rattle.ooo_value.specs.declared.values.Value.{Value}
 use Rattle.ooo_value.specs.declared.values.Value.TheVariants as value
 use Rattle.ooo_value.specs.Kinds.{promoted_kind}
 use Rattle.ooo_value.specs.Operators.{binary_kind}
-use Rattle.ooo_value.specs.Values.{kind_of, conversion_of, number_of}
-use Rattle.ooo_value.proofs.Conversions.{kind_of-value_of}
+use Rattle.ooo_value.specs.Values.{kind_of, conversion_of, number_of, value_of}
 use Rattle.ooo_code.specs.declared.expression.NodeExpr.{NodeExpr, NodeExpr-F, map-NodeExpr, roll-NodeExpr, out-NodeExpr, fold-roll-NodeExpr}
 use Rattle.ooo_code.specs.declared.expression.NodeExpr.TheVariants as node
 use Rattle.ooo_code.specs.declared.expression.NodeExpr.TheOpen as node_layer
@@ -28,6 +27,14 @@ use Rattle.ooo_shapes.specs.Expressions.{slot_of, kept, lowered, lowered_step, c
 use Rattle.ooo_shapes.proofs.Frames.{Within, within_left, within_right, within_local, start_below}
 use Rattle.ooo_shapes.proofs.Zeros.{in_left, in_right, kind_at, count_kinds}
 use Rattle.ooo_shapes.proofs.Values.{lowered_at, widths_at}
+
+-- a kind's value is of that kind
+pub kind_of-value_of : (k : Kind) (z : ℤ) → kind_of (value_of k z) ≡ k
+kind_of-value_of kind.Bool z = refl
+kind_of-value_of kind.Int z = refl
+kind_of-value_of kind.Uint z = refl
+kind_of-value_of kind.Long z = refl
+kind_of-value_of kind.Ulong z = refl
 
 -- ---- kinds of slots
 

@@ -17,6 +17,8 @@ ghost use Rattle.ooo_meaning.specs.Runs as by_nodes;
 ghost use Rattle.ooo_shapes.specs.Designs.{design_of};
 ghost use Rattle.ooo_shapes.specs.Segments.{EndsBehind, SameSegments, Touches, without_values};
 
+use ooo_code::law::own_steps_are_seen;
+
 /// A sound model has the same sequential runs by its statements and by its nodes.
 pub fn same_runs()
     ensures { (b : BoundSpec) (bounds : LimitsSpec) (n : ℕ) → IsSound b →
@@ -50,11 +52,15 @@ pub fn reads_what_statements_touch()
         AgreeOn (Touches b (without_values place.items)) v w →
         DidTheSame (Touches b (without_values place.items))
         (act_found b statements (Some process) place v) (act_found b statements (Some process) place w) }
-{}
+{
+    own_steps_are_seen();
+}
 
 /// An activation by statements changes no variable and has no effect but on what its statements touch up to their next
 /// waits.
 pub fn changes_what_statements_touch()
     ensures { (b : BoundSpec) (process : BoundProcessSpec) (statements : ℕ) (place : Place) (v : View) →
         TouchesOnly (Touches b (without_values place.items)) v (act_found b statements (Some process) place v) }
-{}
+{
+    own_steps_are_seen();
+}

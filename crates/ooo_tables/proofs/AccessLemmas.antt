@@ -12,8 +12,8 @@ use Rattle.ooo_code.specs.Touches.{Touch}
 use Rattle.ooo_access.specs.declared.access.Access.{Access}
 use Rattle.ooo_access.specs.Access.{AreAscending, AreThose, IsAccess, IsAccessOf, IsInOrder, Lists}
 use Rattle.ooo_access.specs.Notices.{IsNoticeBefore, Notice}
-use Rattle.ooo_conflicts.proofs.CalledLemmas.{at_push}
 use Rattle.ooo_tables.specs.Accesses.{AreAccesses}
+use Rattle.ooo_tables.proofs.Members.{at_push}
 use Rattle.ooo_tables.proofs.Ordered.{same_ordered}
 use Rattle.ooo_tables.proofs.RowLemmas.{there}
 

@@ -1,6 +1,7 @@
 -- Segments have one table of least delays.
-use Rattle.std.proofs.Common.{◌≡◌, ℕ, ◌≤◌, List, [], length, refl, ap, sym, ◌∙◌, subst, arith, Option, Some, None}
+use Rattle.std.proofs.Common.{◌≡◌, ℕ, ◌≤◌, List, [], length, refl, ap, sym, ◌∙◌, subst, arith, inl, inr, Option, Some, None}
 use Rattle.std.specs.Prelude.{All}
+use Rattle.std.proofs.lemmas.Bool.{cases_lt}
 use Rattle.ooo_time.specs.declared.delay.Delay.{Delay}
 use Rattle.ooo_time.specs.Delays.{IsLess}
 use Rattle.ooo_time.specs.Scales.{greatest_time}
@@ -9,7 +10,6 @@ use Rattle.ooo_access.specs.declared.access.Access.{Access}
 use Rattle.ooo_advance.specs.Orders.{AtMost}
 use Rattle.ooo_advance.specs.Rows.{AreAddable, IsTable, entry_at}
 use Rattle.ooo_advance.specs.Walks.{HasWalk, IsLeast, NoLess, sum_of}
-use Rattle.ooo_advance.proofs.OrderLemmas.{not_less_at_most}
 use Rattle.ooo_tables.specs.Tables.{HaveCount}
 use Rattle.ooo_tables.proofs.RowLemmas.{same_rows}
 
@@ -28,10 +28,17 @@ same_delay d e p q =
     let deltas : d.deltas ≡ e.deltas = omega arith in
     ap (λ (k : ℕ). delay_of k d.deltas) ticks ∙ ap (λ (k : ℕ). delay_of e.time.0 k) deltas
 
+-- what isn't less is at least as great
+not_less : (d e : Delay) → (IsLess e d → ⊥) → AtMost d e
+not_less d e out = record {
+  time = elim (cases_lt e.time.0 d.time.0) [ inl a ↦ absurd (out (inl a)) | inr b ↦ b ];
+  deltas = λ s. elim (cases_lt e.deltas d.deltas) [ inl a ↦ absurd (out (inr (sym s, a))) | inr b ↦ b ];
+}
+
 -- no walk is less, so this one isn't
 at_most_walk : (graph : Graph) (access : List Access) (a b : ℕ) (d e : Delay) → NoLess graph access a b d → HasWalk graph access a b e → AtMost d e
 at_most_walk graph access a b d e none w =
-    not_less_at_most d e (λ less. none w.edges w.walk (subst (λ k. IsLess k d) (sym w.sum) less))
+    not_less d e (λ less. none w.edges w.walk (subst (λ k. IsLess k d) (sym w.sum) less))
 
 -- a delay of the greatest time at most
 abbrev IsWithin : Option Delay → Type 0

@@ -1,3 +1,4 @@
+pub mod Members
 pub mod Ordered
 pub mod RowLemmas
 pub mod GraphLemmas

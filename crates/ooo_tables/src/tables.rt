@@ -10,7 +10,7 @@ use ooo_access::{Access, sets};
 use ooo_advance::AdvanceTable;
 use ooo_code::{Design, Segment};
 use ooo_conflicts::ClashTable;
-use ooo_segments::{Graph, GraphError, graph_of_closed};
+use ooo_segments::{Graph, GraphError, graph, graph_of_closed};
 use sqlite_items::Items;
 use std::alloc::{AllocError, Global};
 
@@ -40,8 +40,8 @@ impl Tables {
         requires few { length (beginnings design.now) ≤ greatest_segments }
         ensures { IfOk result (AreTables design.now) }
     {
-        match Tables::make_of_closed(alloc, design) {
-            Ok(tables) => Ok(tables),
+        match graph(alloc, design) {
+            Ok(graph) => Ok(Tables::of_graph(alloc, design, graph)?),
             Err(GraphError::OutOfMemory) => Err(AllocError),
             Err(GraphError::TooManySegments) => unreachable!(),
         }

@@ -1,7 +1,7 @@
 -- Bits of two signed values, by their residues.
 use Rattle.std.proofs.Common.{bit_and, bit_or, bit_xor}
 use Rattle.std.specs.Int.{w64}
-use Rattle.ooo_value.proofs.Wraps.{signed_and, signed_or, signed_xor}
+use Rattle.ooo_interp.proofs.SignedBits.{signed_and, signed_or, signed_xor}
 use Rattle.ooo_interp.proofs.Bitwise.{longs}
 use Rattle.ooo_interp.proofs.combining.on_longs.Goals as goal
 

@@ -1,7 +1,7 @@
 -- Bits of two signed values, by their residues.
 use Rattle.std.proofs.Common.{bit_and, bit_or, bit_xor}
 use Rattle.std.specs.Int.{w32}
-use Rattle.ooo_value.proofs.Wraps.{signed_and, signed_or, signed_xor}
+use Rattle.ooo_interp.proofs.SignedBits.{signed_and, signed_or, signed_xor}
 use Rattle.ooo_interp.proofs.Bitwise.{ints}
 use Rattle.ooo_interp.proofs.numbers.kinds.I32Operand.by.Goals as goal
 
