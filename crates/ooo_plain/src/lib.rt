@@ -12,7 +12,7 @@ mod laws;
 pub mod line;
 mod ports;
 pub mod row;
-pub mod run;
+mod run;
 pub mod schedule;
 pub mod starting;
 mod touching;

@@ -113,7 +113,8 @@ fn is_same(a: Stamp, b: Stamp) -> bool
 fn place_of(processes: &VecDeque<usize>, p: usize) -> Option<usize>
     requires { AllPairs (λ a b. a < b) processes.now.items }
     ensures { let items = processes.now.items in
-        MatchOption result (is_among items p ≡ false) (IsPlaceOf p (deque_len processes.now) items) }
+        MatchOption result (is_among items p ≡ false)
+        (IsPlaceOf p (deque_len processes.now) items) }
 {
     processes.binary_search(&p).ok()
 }

@@ -233,7 +233,8 @@ fn add_notice(
 fn add_to(lists: &mut Vec<Vec<u32>>, c: u32, e: u32) -> Result<(), AllocError>
     requires { c < length lists.old.items }
     ensures { let old = lists_of lists.old.items in
-        OnOk result (lists_of lists.new.items ≡ slice_set old c (slice_index_or old c [] ++ e ∷ [])) }
+        OnOk result (lists_of lists.new.items
+        ≡ slice_set old c (slice_index_or old c [] ++ e ∷ [])) }
 {
     lists[c as usize].push(e)?;
     Ok(())

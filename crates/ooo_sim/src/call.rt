@@ -34,7 +34,8 @@ pub fn alone<So: Source, Si: Sink>(
 ) -> Option<Status>
     ensures answers { IsSome result }
     ensures written { IfSome result (λ status.
-        Wrote (words_of words.now) (So.rest source.old) status (Si.held sink.old) (Si.held sink.new)) }
+        Wrote (words_of words.now) (So.rest source.old) status (Si.held sink.old)
+        (Si.held sink.new)) }
     ensures taken { IfSome result (λ status.
         Took So.rest (words_of words.now) status source.old source.new) }
     ensures source_fault { IfSome result (λ status. status ≡ Status.SourceFailed →

@@ -114,7 +114,8 @@ fn add_name(file: &mut File, facts: Option<ModuleFacts>) -> Result<(), AllocErro
 
 // What is known of a file behind a module.
 fn add_facts(alloc: Global, file: &mut File, declared: &Module) -> Result<(), AllocError>
-    ensures { OnOk result (file.new ≡ with_name (Some (facts_of declared.now)) file.old.scope file.old) }
+    ensures { OnOk result
+        (file.new ≡ with_name (Some (facts_of declared.now)) file.old.scope file.old) }
 {
     let facts = facts(alloc, declared)?;
     add_name(file, Some(facts))
