@@ -74,7 +74,8 @@ fn number_of(place: usize) -> Result<u32, AllocError>
 impl Called {
     // Whether an event is notified.
     fn calls(&self, event: &BoundEvent) -> bool
-        ensures { IsTrue result ↔ IsCalled self.now.changed self.now.taken self.now.given event.now }
+        ensures { IsTrue result
+            ↔ IsCalled self.now.changed self.now.taken self.now.given event.now }
     {
         match event {
             BoundEvent::Own => false,

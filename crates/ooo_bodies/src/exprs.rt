@@ -138,7 +138,8 @@ fn call(
     ensures tree { IfOk result (λ tree.
         tree ≡ (call_of place word.now (exprs_of args.now scopes.now) scopes.now).tree) }
     ensures notes { OnOk result (notes.new
-        ≡ noted notes.old (call_of place word.now (exprs_of args.now scopes.now) scopes.now).notes) }
+        ≡ noted notes.old (call_of place word.now
+        (exprs_of args.now scopes.now) scopes.now).notes) }
 {
     let denotes = scopes.denotes(word.name.as_bytes());
     notes.call(place, denotes, args.len(), word.position)?;

@@ -46,8 +46,8 @@ impl Claim {
 
     // Of each call whether it stays in its group.
     fn stays_in_groups(&self, alloc: Global, calls: &[Call]) -> Result<Vec<bool>, AllocError>
-        ensures { IfOk result (λ answers.
-            answers.items ≡ map (λ c. group_of self.now c.from == group_of self.now c.to) calls.now) }
+        ensures { IfOk result (λ answers. answers.items
+            ≡ map (λ c. group_of self.now c.from == group_of self.now c.to) calls.now) }
     {
         calls
             .iter()

@@ -164,9 +164,11 @@ impl Bank {
     /// Applies effects at a stamp, in their order, for which there is room. It takes no memory.
     pub fn apply(&mut self, effects: &[Effect], at: Stamp)
         requires room { Covers self.old effects.now }
-        requires may { (ops : Operations) × IsBankAfter self.old ops × MayApplyAll ops at effects.now }
+        requires may { (ops : Operations) × IsBankAfter self.old ops
+            × MayApplyAll ops at effects.now }
         requires countable { IsCountableStamp at }
-        ensures after { (ops : Operations) → IsBankAfter self.old ops → MayApplyAll ops at effects.now →
+        ensures after { (ops : Operations) → IsBankAfter self.old ops →
+            MayApplyAll ops at effects.now →
             IsBankAfter self.new (after_effects at ops effects.now) }
 
         // What the effects don't name answers as before.
@@ -254,7 +256,8 @@ impl Bank {
     /// Takes a value of a fifo.
     fn take(&mut self, id: u32, at: Stamp)
         requires room { Covers self.old (effect.Take id ∷ []) }
-        requires may { (ops : Operations) × IsBankAfter self.old ops × MayApply ops at (effect.Take id) }
+        requires may { (ops : Operations) × IsBankAfter self.old ops
+            × MayApply ops at (effect.Take id) }
         requires countable { IsCountableStamp at }
         ensures { Applies self.old self.new at (effect.Take id) }
     {
@@ -281,7 +284,8 @@ impl Bank {
     /// Cancels what is pending of an event of the model's own.
     fn cancel(&mut self, id: u32, at: Stamp)
         requires room { Covers self.old (effect.Cancel id ∷ []) }
-        requires may { (ops : Operations) × IsBankAfter self.old ops × MayApply ops at (effect.Cancel id) }
+        requires may { (ops : Operations) × IsBankAfter self.old ops
+            × MayApply ops at (effect.Cancel id) }
         requires countable { IsCountableStamp at }
         ensures { Applies self.old self.new at (effect.Cancel id) }
     {
@@ -292,7 +296,8 @@ impl Bank {
 
 /// The channel of an event, if it is of one.
 fn channel(kind: BoundEvent) -> Option<u32>
-    ensures { MatchOption result (kind ≡ event.Own) (λ c. (c ≡ channel_of kind) × (kind ≢ event.Own)) }
+    ensures { MatchOption result (kind ≡ event.Own)
+        (λ c. (c ≡ channel_of kind) × (kind ≢ event.Own)) }
 {
     match kind {
         BoundEvent::Own => None,
@@ -332,7 +337,8 @@ fn ask(channels: &mut Vec<ChannelState>, alloc: Global, kind: BoundEvent)
     ensures first { (design : List ChannelSpec) (count : ℕ) →
         AreFirst design count channels.old.items → AreFirst design count channels.new.items }
     ensures kept { IsKeptIn channels.new.items kind }
-    ensures others { (k : EventSpec) → IsKeptIn channels.old.items k → IsKeptIn channels.new.items k }
+    ensures others { (k : EventSpec) → IsKeptIn channels.old.items k →
+        IsKeptIn channels.new.items k }
 {
     if let Some(c) = channel(kind) {
         if (c as usize) < channels.len() {

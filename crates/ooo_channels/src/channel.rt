@@ -46,7 +46,8 @@ impl ChannelState {
         ensures kept { Keeps kind self.new }
         ensures keeps { (k : EventSpec) → Keeps k self.old → Keeps k self.new }
         ensures after { (c : ℕ) (below : Stamp) (x : Cycle) →
-            IsChannelAfter c below x (λ k. []) self.old → IsChannelAfter c below x (λ k. []) self.new }
+            IsChannelAfter c below x (λ k. []) self.old →
+            IsChannelAfter c below x (λ k. []) self.new }
     {
         match self {
             ChannelState::Signal(signal) => signal.ask(alloc, kind),
@@ -95,10 +96,12 @@ impl ChannelState {
     /// A value of a fifo that is not read yet, by its number.
     pub fn value(&self, n: usize) -> Value
         requires kind { HasKind kind.Fifo self.now }
-        requires within { (c : ℕ) × (below : Stamp) × (x : Cycle) × (calls : EventSpec → List CallSpec)
+        requires within { (c : ℕ) × (below : Stamp) × (x : Cycle)
+            × (calls : EventSpec → List CallSpec)
             × IsChannelAfter c below x calls self.now × (n < length (values_left x.channel)) }
         ensures { (c : ℕ) (below : Stamp) (x : Cycle) (calls : EventSpec → List CallSpec) →
-            IsChannelAfter c below x calls self.now → slice_get (values_left x.channel) n ≡ Some result }
+            IsChannelAfter c below x calls self.now →
+            slice_get (values_left x.channel) n ≡ Some result }
     {
         match self {
             ChannelState::Signal(_) => Value::Bool(false),
@@ -116,7 +119,8 @@ impl ChannelState {
         ensures kind { HasKind kind.Signal self.new }
         ensures after { (c : ℕ) (x : Cycle) (calls : EventSpec → List CallSpec) →
             IsChannelAfter c below x calls self.old → ¬ IsBefore at x.stamp →
-            IsChannelNext c below x calls (record { at = at; effect = effect.Request c value }) self.new }
+            IsChannelNext c below x calls
+            (record { at = at; effect = effect.Request c value }) self.new }
         ensures keeps { (k : EventSpec) → Keeps k self.old → Keeps k self.new }
         ensures room { (n : ℕ) → HasRoom (n + 1) self.old → HasRoom n self.new }
     {
@@ -138,7 +142,8 @@ impl ChannelState {
         ensures after { (c : ℕ) (x : Cycle) (calls : EventSpec → List CallSpec) →
             IsChannelAfter c below x calls self.old → ¬ IsBefore at x.stamp →
             1 ≤ writable (cycle_at at x).channel →
-            IsChannelNext c below x calls (record { at = at; effect = effect.Put c value }) self.new }
+            IsChannelNext c below x calls
+            (record { at = at; effect = effect.Put c value }) self.new }
         ensures keeps { (k : EventSpec) → Keeps k self.old → Keeps k self.new }
         ensures room { (n : ℕ) → HasRoom (n + 1) self.old → HasRoom n self.new }
     {
@@ -186,7 +191,8 @@ impl ChannelState {
     /// How many values of a fifo may be read in the cycle of a stamp.
     pub fn available(&self, at: Stamp) -> u32
         requires kind { HasKind kind.Fifo self.now }
-        requires fifo { (c : ℕ) × (below : Stamp) × (x : Cycle) × (calls : EventSpec → List CallSpec)
+        requires fifo { (c : ℕ) × (below : Stamp) × (x : Cycle)
+            × (calls : EventSpec → List CallSpec)
             × IsChannelAfter c below x calls self.now }
         ensures { (c : ℕ) (below : Stamp) (x : Cycle) (calls : EventSpec → List CallSpec) →
             IsChannelAfter c below x calls self.now →
@@ -201,7 +207,8 @@ impl ChannelState {
     /// How many values a fifo takes in the cycle of a stamp.
     pub fn free(&self, at: Stamp) -> u32
         requires kind { HasKind kind.Fifo self.now }
-        requires fifo { (c : ℕ) × (below : Stamp) × (x : Cycle) × (calls : EventSpec → List CallSpec)
+        requires fifo { (c : ℕ) × (below : Stamp) × (x : Cycle)
+            × (calls : EventSpec → List CallSpec)
             × IsChannelAfter c below x calls self.now }
         ensures { (c : ℕ) (below : Stamp) (x : Cycle) (calls : EventSpec → List CallSpec) →
             IsChannelAfter c below x calls self.now → result ≡ writable (cycle_at at x).channel }

@@ -30,7 +30,8 @@ pub fn apart()
 
 /// What effects don't name stands after them as before.
 pub fn others_stay()
-    ensures { (at : StampSpec) (ops : Operations) (effects : List EffectSpec) → LeavesOthers at ops effects }
+    ensures { (at : StampSpec) (ops : Operations) (effects : List EffectSpec) →
+        LeavesOthers at ops effects }
 {}
 
 /// As a run of a design starts, no operation was made, and the initialization goes on with that (IEEE 1666-2011, 4.2.1.1).
@@ -60,7 +61,8 @@ pub fn settles()
 /// The same of one step: after the update, at the stamp of the next delta cycle or of any later time, whatever is due
 /// between.
 pub fn reaches()
-    ensures { (ops : Operations) (w : World) (next : StampSpec) → Agrees ops w → IsNextStamp w.stamp next →
+    ensures { (ops : Operations) (w : World) (next : StampSpec) → Agrees ops w →
+        IsNextStamp w.stamp next →
         Agrees ops (reach next (update w)) }
 {}
 
@@ -74,7 +76,8 @@ pub fn forgets()
 /// that changed in the delta cycle just before (6.4), of a fifo the values that may be read and the slots that are free
 /// (6.23), and the history.
 pub fn shows()
-    ensures { (ops : Operations) (w : World) (c : ℕ) → Agrees ops w → c < length ops.channels → IsShown ops w c }
+    ensures { (ops : Operations) (w : World) (c : ℕ) → Agrees ops w → c < length ops.channels →
+        IsShown ops w c }
 {}
 
 /// The first firing of an event after the present stamp is when its slot is due once the update has notified the events of
@@ -86,5 +89,6 @@ pub fn fires()
 
 /// At the present stamp an effect on what is there is in order.
 pub fn in_order()
-    ensures { (ops : Operations) (w : World) (f : EffectSpec) → Agrees ops w → Names ops f → IsInOrder ops w.stamp f }
+    ensures { (ops : Operations) (w : World) (f : EffectSpec) → Agrees ops w → Names ops f →
+        IsInOrder ops w.stamp f }
 {}

@@ -78,7 +78,8 @@ impl SignalState {
         ensures kept { SignalKeeps kind self.new }
         ensures keeps { (k : EventSpec) → SignalKeeps k self.old → SignalKeeps k self.new }
         ensures after { (c : ℕ) (below : Stamp) (x : Cycle) →
-            IsSignalAfter c below x (λ k. []) self.old → IsSignalAfter c below x (λ k. []) self.new }
+            IsSignalAfter c below x (λ k. []) self.old →
+            IsSignalAfter c below x (λ k. []) self.new }
     {
         match kind {
             BoundEvent::Changed(_) => self.changes = Notice::new(alloc),
@@ -116,20 +117,24 @@ impl SignalState {
         requires countable { IsCountableStamp at }
 
         ensures cycle { (x : Cycle) (c : ℕ) → IsSignalIn self.old x →
-            IsSignalIn self.new (cycle_after x (record { at = at; effect = effect.Request c value })) }
+            IsSignalIn self.new (cycle_after x
+            (record { at = at; effect = effect.Request c value })) }
         ensures stamp { self.new.stamp ≡ at }
         ensures events { AreSignalEventsBy self.new }
 
         // The events are notified anew.
         ensures changes { (calls : List CallSpec) → IsNoticeKept below self.old.changes calls →
             let s = IsSignal (signal_of self.new) in
-            IsNoticeKept below self.new.changes (calls ++ renewal at (notifies (event.Changed 0) s) ∷ []) }
+            IsNoticeKept below self.new.changes
+            (calls ++ renewal at (notifies (event.Changed 0) s) ∷ []) }
         ensures rises { (calls : List CallSpec) → IsNoticeKept below self.old.rises calls →
             let s = IsSignal (signal_of self.new) in
-            IsNoticeKept below self.new.rises (calls ++ renewal at (notifies (event.Rise 0) s) ∷ []) }
+            IsNoticeKept below self.new.rises
+            (calls ++ renewal at (notifies (event.Rise 0) s) ∷ []) }
         ensures falls { (calls : List CallSpec) → IsNoticeKept below self.old.falls calls →
             let s = IsSignal (signal_of self.new) in
-            IsNoticeKept below self.new.falls (calls ++ renewal at (notifies (event.Fall 0) s) ∷ []) }
+            IsNoticeKept below self.new.falls
+            (calls ++ renewal at (notifies (event.Fall 0) s) ∷ []) }
 
         ensures keeps { (k : EventSpec) → SignalKeeps k self.old → SignalKeeps k self.new }
         ensures room { (n : ℕ) → HasSignalRoom (n + 1) self.old → HasSignalRoom n self.new }
@@ -208,7 +213,8 @@ impl SignalState {
           history = s.history;
         } }
         ensures stamp { ¬ IsBefore at self.old.stamp → self.new.stamp ≡ at }
-        ensures room { (n : ℕ) → vec_len self.old.history + (n + 1) ≤ vec_capacity self.old.history →
+        ensures room { (n : ℕ) →
+            vec_len self.old.history + (n + 1) ≤ vec_capacity self.old.history →
             vec_len self.new.history + n ≤ vec_capacity self.new.history }
     {
         if self.stamp.is_before(at) {
@@ -231,7 +237,8 @@ impl SignalState {
 
     /// The value that is seen in the cycle of a stamp, and whether it changed in the delta cycle just before.
     pub fn seen(&self, at: Stamp) -> (Value, bool)
-        ensures { (x : Cycle) → IsSignalIn self.now x → IsSeenAs (cycle_at at x).channel at.time result }
+        ensures { (x : Cycle) → IsSignalIn self.now x →
+            IsSeenAs (cycle_at at x).channel at.time result }
     {
         if self.stamp.is_before(at) {
             (

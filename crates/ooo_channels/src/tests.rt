@@ -107,7 +107,8 @@ fn fits(kind: ChannelKind, effect: Effect) -> bool
 fn has_place(bank: &Bank, kind: ChannelKind, last: Stamp, now: Stamp, effect: Effect) -> bool
     requires trial { IsTrial kind bank.now last }
     requires fits { FitsTrial kind effect }
-    ensures { (trial : IsTrial kind bank.now last) → IsTrue result → FindsPlace trial.ops now effect }
+    ensures { (trial : IsTrial kind bank.now last) → IsTrue result →
+        FindsPlace trial.ops now effect }
 {
     match effect {
         Effect::Put(_, _) => bank.free(0, now) >= 1,

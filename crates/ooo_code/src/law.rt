@@ -14,15 +14,18 @@ ghost use Rattle.ooo_code.specs.Segments.{Accesses};
 
 /// An activation does the same on two views that agree on what its segment touches.
 pub fn reads_what_is_touched()
-    ensures { (design : DesignSpec) (statements p : ℕ) (process : ProcSpec) (frame : FrameSpec) (v w : View) →
-        slice_get design.processes p ≡ Some process → AgreeOn (Accesses design process frame.entry) v w →
+    ensures { (design : DesignSpec) (statements p : ℕ) (process : ProcSpec) (frame : FrameSpec)
+        (v w : View) →
+        slice_get design.processes p ≡ Some process →
+        AgreeOn (Accesses design process frame.entry) v w →
         DidTheSame (Accesses design process frame.entry)
         (by_nodes design statements p frame v) (by_nodes design statements p frame w) }
 {}
 
 /// An activation changes no variable and has no effect but on what its segment touches.
 pub fn changes_what_is_touched()
-    ensures { (design : DesignSpec) (statements p : ℕ) (process : ProcSpec) (frame : FrameSpec) (v : View) →
+    ensures { (design : DesignSpec) (statements p : ℕ) (process : ProcSpec) (frame : FrameSpec)
+        (v : View) →
         slice_get design.processes p ≡ Some process →
         TouchesOnly (Accesses design process frame.entry) v (by_nodes design statements p frame v) }
 {}
@@ -30,7 +33,8 @@ pub fn changes_what_is_touched()
 /// In a sound design more nodes than `between` between two that count change nothing, so an activation ends by a wait,
 /// an end, a fault or the statement limit.
 pub fn enough_nodes()
-    ensures { (nodes : List NodeSpec) (r : Running) (counted : NodeSpec → Next) (m n : ℕ) (d : Doing) →
+    ensures { (nodes : List NodeSpec) (r : Running) (counted : NodeSpec → Next) (m n : ℕ)
+        (d : Doing) →
         IsRanked nodes → between nodes ≤ m →
         pass nodes r counted m n d ≡ pass nodes r counted (between nodes) n d }
 {}

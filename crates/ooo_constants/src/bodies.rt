@@ -88,7 +88,8 @@ fn refuse_step(known: Known<'_>, after: &Option<CheckedSimple>, told: &mut Optio
 
 // The same of a simple statement.
 fn refuse_simple(known: Known<'_>, statement: &CheckedSimple, told: &mut Option<TimeRefusal>)
-    ensures { told.new ≡ told_of told.old (simple_refusals (constants_of known.entry) statement.now) }
+    ensures { told.new ≡ told_of told.old
+        (simple_refusals (constants_of known.entry) statement.now) }
 {
     match statement {
         CheckedSimple::Notify(_, _, given) => refuse_time(known, given, told),

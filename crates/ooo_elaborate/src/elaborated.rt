@@ -127,7 +127,8 @@ fn process_functions(
     instances: &[WalkedInstance],
     form: ProcessForm,
 ) -> Result<Items<usize>, AllocError>
-    ensures { IfOk result (λ all. all ≡ process_functions (filed modules.entry) instances.now form) }
+    ensures { IfOk result
+        (λ all. all ≡ process_functions (filed modules.entry) instances.now form) }
 {
     match form {
         ProcessForm::Clock(_, _, _) => Ok(Items::new(alloc)),
@@ -213,7 +214,8 @@ fn channel_pass(
     links: &Links,
     numbered: &Numbered,
 ) -> Result<Bound, ElabError>
-    ensures { IsAnswerTo (channel_pass (filed modules.entry) walk.now links.now numbered.now) result }
+    ensures { IsAnswerTo
+        (channel_pass (filed modules.entry) walk.now links.now numbered.now) result }
 {
     let bound = assembled(alloc, modules, walk, links, numbered)?;
     let held = held_in(alloc, modules, walk, numbered, &bound)?;

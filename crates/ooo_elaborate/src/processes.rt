@@ -119,7 +119,8 @@ fn add_sensitive(
     setups: &[CheckedSetup],
     all: &mut Items<u32>,
 ) -> Result<(), AllocError>
-    ensures { OnOk result (all.new ≡ all.old ++ sensitive_by (numbering_of numbers.entry) setups.now) }
+    ensures { OnOk result
+        (all.new ≡ all.old ++ sensitive_by (numbering_of numbers.entry) setups.now) }
 {
     'parts: for e in setups {
         match e {

@@ -72,7 +72,8 @@ fn append_histories(
     channels: &[Items<Entry>],
 ) -> Result<(), AllocError>
     requires { length channels.now ≤ length names.now }
-    ensures { OnOk result (text.new.items ≡ text.old.items ++ histories_text names.now channels.now) }
+    ensures { OnOk result
+        (text.new.items ≡ text.old.items ++ histories_text names.now channels.now) }
 {
     for (channel, entries) in channels.iter().enumerate() {
         append_history(text, names[channel].as_bytes(), entries.as_slice())?;

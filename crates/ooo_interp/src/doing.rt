@@ -69,7 +69,8 @@ pub struct Made<'a> {
 impl<'a> Made<'a> {
     // Adds an effect, and goes on to a node.
     pub(crate) fn go_with(&mut self, effect: Effect, to: u32) -> Result<u32, Halt<'a>>
-        ensures { (s : Sight) → GoesWith effect to result (doing_of s self.old) (doing_of s self.new) }
+        ensures { (s : Sight) →
+            GoesWith effect to result (doing_of s self.old) (doing_of s self.new) }
     {
         self.add(effect)?;
         Ok(to)

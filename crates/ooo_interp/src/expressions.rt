@@ -69,7 +69,8 @@ fn element_of<L: Lent>(lent: &L, variable: u32, i: &NodeExpr) -> Result<Value, F
 // An operand in a kind.
 #[cycle(evaluate)]
 fn converted<L: Lent>(lent: &L, a: &NodeExpr, kind: Kind) -> Result<Value, Fault>
-    ensures { result ≡ on_value (reading_of a.now (L.sight lent.now)) (λ v. Ok (conversion_of v kind)) }
+    ensures { result ≡ on_value (reading_of a.now (L.sight lent.now))
+        (λ v. Ok (conversion_of v kind)) }
 {
     let v = operand(lent, a)?;
     Ok(convert(v, kind))
@@ -107,7 +108,8 @@ fn opposite<L: Lent>(lent: &L, a: &NodeExpr) -> Result<Value, Fault>
 #[cycle(evaluate)]
 fn combined<L: Lent>(lent: &L, op: Op, a: &NodeExpr, b: &NodeExpr) -> Result<Value, Fault>
     ensures { let s = L.sight lent.now in
-        result ≡ on_value (reading_of a.now s) (λ v. on_value (reading_of b.now s) (λ w. binary_of op v w)) }
+        result ≡ on_value (reading_of a.now s)
+        (λ v. on_value (reading_of b.now s) (λ w. binary_of op v w)) }
 {
     let left = operand(lent, a)?;
     let right = operand(lent, b)?;

@@ -70,7 +70,8 @@ impl FifoPort {
     #[tactic(auto, using(crate::proofs::Drops::drop_one_more))]
     pub(crate) fn take(&mut self)
         ensures channel { self.new.channel ≡ self.old.channel }
-        ensures values { drop self.new.taken self.new.values ≡ drop 1 (drop self.old.taken self.old.values) }
+        ensures values { drop self.new.taken self.new.values
+            ≡ drop 1 (drop self.old.taken self.old.values) }
         ensures free { self.new.free ≡ self.old.free }
     {
         if self.taken < self.values.len() {

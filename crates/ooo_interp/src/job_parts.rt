@@ -126,7 +126,8 @@ fn set_in(carried: &mut Vec<(u32, Cells)>, variable: u32, at: usize, v: Value) -
     requires { IsAscending carried.old.items }
     ensures found { result ≡ is_some (listed carried.old.items variable) }
     ensures ascending { IsAscending carried.new.items }
-    ensures listed { carried.new.items ≡ with_listed variable (λ cells. slice_set cells at v) carried.old.items }
+    ensures listed { carried.new.items
+        ≡ with_listed variable (λ cells. slice_set cells at v) carried.old.items }
 {
     match place_of(carried, variable) {
         Some(place) => {

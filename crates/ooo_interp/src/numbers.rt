@@ -54,7 +54,8 @@ pub(crate) fn combined<N: Operand, L: Lent>(
     b: &NodeExpr,
 ) -> Option<N>
     ensures { let s = L.sight lent.now in IfSome result (λ z. Ok (N.value z) ≡
-        on_value (reading_of a.now s) (λ v. on_value (reading_of b.now s) (λ w. binary_of op v w))) }
+        on_value (reading_of a.now s)
+        (λ v. on_value (reading_of b.now s) (λ w. binary_of op v w))) }
 {
     let x: N = operand(lent, a)?;
     match op {

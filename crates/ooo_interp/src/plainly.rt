@@ -190,7 +190,8 @@ fn plain_truth<L: Lent>(lent: &L, e: &NodeExpr) -> Option<bool>
 #[inline(never)]
 fn other_truth<L: Lent>(lent: &L, op: Op, a: &NodeExpr, b: &NodeExpr) -> Option<bool>
     ensures { let s = L.sight lent.now in IfSome result (λ t. Ok (ValueSpec.Bool t) ≡
-        on_value (reading_of a.now s) (λ v. on_value (reading_of b.now s) (λ w. binary_of op v w))) }
+        on_value (reading_of a.now s)
+        (λ v. on_value (reading_of b.now s) (λ w. binary_of op v w))) }
 {
     let v = evaluate(lent, a).ok()?;
     let w = evaluate(lent, b).ok()?;

@@ -51,7 +51,8 @@ pub fn run_nodes<'a, L: Lent>(
     statements: u32,
 ) -> Result<End<'a>, AllocError>
     ensures does { let r = running_of activation.now in
-        IfOk result (λ end. steps nodes.now r statements first (doing_of (L.sight lent.old) made.old)
+        IfOk result (λ end. steps nodes.now r statements first
+        (doing_of (L.sight lent.old) made.old)
         ≡ ended_by r end (doing_of (L.sight lent.new) made.new)) }
     ensures kept { L.kept lent.new ≡ L.kept lent.old }
 {
@@ -78,7 +79,8 @@ fn go_on<'a, L: Lent>(
     ensures comes { let r = running_of activation.now in
         let before = doing_of (L.sight lent.old) made.old in
         let after = doing_of (L.sight lent.new) made.new in
-        IfOk result (λ t. Comes nodes.now r left.new t after (from_node nodes.now r left.old number before)) }
+        IfOk result (λ t. Comes nodes.now r left.new t after
+        (from_node nodes.now r left.old number before)) }
     ensures shortens { IfOk result (λ t. Shortens nodes.now left.old left.new t) }
     ensures kept { L.kept lent.new ≡ L.kept lent.old }
 {

@@ -23,7 +23,8 @@ use std::alloc::{AllocError, Global};
 /// Only where memory runs out; the job is then given up.
 pub fn run_segment(alloc: Global, job: Job) -> Result<Done, AllocError>
     requires { Fits job }
-    ensures does { IfOk result (λ done. (v : View) → IsPartOf job v → job_on job v ≡ done_on done v) }
+    ensures does { IfOk result
+        (λ done. (v : View) → IsPartOf job v → job_on job v ≡ done_on done v) }
     ensures of { IfOk result (λ done. IsOf job done) }
 {
     reads_what_is_touched();

@@ -49,7 +49,8 @@ pub fn lex(alloc: Global, source: &[u8]) -> Result<Vec<Token>, LexError>
     // What the tokens' spans are.
     ensures within { IfOk result (λ v. All (IsWithin source.now) v.items) }
     ensures in_order { IfOk result (λ v. AreInOrder v.items) }
-    ensures lexemes { IfOk result (λ v. AreLexemesOf source.now (map (lexeme_at source.now) v.items)) }
+    ensures lexemes { IfOk result
+        (λ v. AreLexemesOf source.now (map (lexeme_at source.now) v.items)) }
 
     // A source that is refused has this breach at this position, no other breach, and no cutting.
     // One that is cut has no breach.

@@ -67,7 +67,8 @@ pub(crate) fn push_kinds(code: &mut Code, function: &BoundFunction) -> Result<()
 
 /// The slots from this one on get 0 of their kinds.
 pub(crate) fn put_zeros(code: &mut Code, line: u32, first: u32) -> Result<(), AllocError>
-    ensures { OnOk result (Puts (zero_nodes line first (drop first code.old.slots) (length code.old.nodes))
+    ensures { OnOk result
+        (Puts (zero_nodes line first (drop first code.old.slots) (length code.old.nodes))
         code.old code.new) }
 {
     'slots: for slot in first as usize..code.slots.len() {
@@ -155,7 +156,8 @@ pub(crate) fn leave_kind(
     kind: Option<Kind>,
     free: u32,
 ) -> Result<NodeKind, AllocError>
-    ensures { IfOk result (λ k. k ≡ leave_kind (home_at scene.entry) spot.around into.now kind free spot.next) }
+    ensures { IfOk result
+        (λ k. k ≡ leave_kind (home_at scene.entry) spot.around into.now kind free spot.next) }
 {
     match into {
         BoundTarget::Nothing => Ok(NodeKind::Goto),

@@ -57,7 +57,8 @@ impl Code {
     // Adds a node.
     fn put(&mut self, kind: NodeKind, line: u32, counts: bool, next: u32) -> Result<(), AllocError>
         ensures { OnOk result (Puts
-            (record { kind = kind; line = line; counts = counts; next = next } ∷ []) self.old self.new) }
+            (record { kind = kind; line = line; counts = counts; next = next } ∷ [])
+            self.old self.new) }
     {
         self.nodes.push(Node {
             kind,

@@ -160,7 +160,8 @@ impl From<AllocError> for LowerError {
 pub fn lower(alloc: Global, model: &Bound) -> Result<Design, LowerError>
     ensures design { IfOk result (λ design. design ≡ design_of model.now) }
     ensures within { IfOk result (λ design. code_size model.now ≤ GREATEST_SIZE) }
-    ensures too_large { result ≡ Err lower_error.CodeTooLarge → GREATEST_SIZE < code_size model.now }
+    ensures too_large { result ≡ Err lower_error.CodeTooLarge →
+        GREATEST_SIZE < code_size model.now }
     ensures sound { IsSoundModel model.now → IfOk result IsSound }
     ensures runs { (bounds : LimitsSpec) (n : ℕ) → IsSoundModel model.now → IfOk result (λ design.
         by_statements.sequential_run model.now bounds n ≡ by_nodes.sequential_run design bounds n) }

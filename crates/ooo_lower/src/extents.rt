@@ -87,7 +87,8 @@ pub(crate) fn given(function: &BoundFunction, args: &[BoundExpr]) -> u64
 #[cycle(extents)]
 fn of_call(scene: Scene<'_>, depth: usize, f: u32, args: &[BoundExpr]) -> Result<Extent, AllocError>
     ensures { (line : ℕ) (into : BoundTargetSpec) → IfOk result (λ e. IsExtent e
-        (call_shape (home_at scene.entry) line into args.now (callees_within depth (home_at scene.entry) f))) }
+        (call_shape (home_at scene.entry) line into args.now
+        (callees_within depth (home_at scene.entry) f))) }
 {
     let Some(function) = callee(scene, depth, f) else {
         return Ok(plain(0));

@@ -68,7 +68,8 @@ pub(crate) fn put_read(
     into: &BoundTarget,
     fifo: u32,
 ) -> Result<(), AllocError>
-    ensures { OnOk result (Puts (read_nodes (home_at scene.entry) spot.around into.now fifo spot.line
+    ensures { OnOk result
+        (Puts (read_nodes (home_at scene.entry) spot.around into.now fifo spot.line
         (length code.old.nodes) spot.next) code.old code.new) }
 {
     let at = code.at()?;
@@ -158,7 +159,8 @@ pub(crate) fn put_nb_read(
     fifo: u32,
     into: &BoundTarget,
 ) -> Result<(), AllocError>
-    ensures { OnOk result (Puts (nb_read_nodes (home_at scene.entry) spot.around given.now fifo into.now
+    ensures { OnOk result
+        (Puts (nb_read_nodes (home_at scene.entry) spot.around given.now fifo into.now
         spot.line (length code.old.nodes) spot.next) code.old code.new) }
 {
     let at = code.at()?;
@@ -190,7 +192,8 @@ pub(crate) fn put_nb_write(
     fifo: u32,
     e: &BoundExpr,
 ) -> Result<(), AllocError>
-    ensures { OnOk result (Puts (nb_write_nodes (home_at scene.entry) spot.around given.now fifo e.now
+    ensures { OnOk result
+        (Puts (nb_write_nodes (home_at scene.entry) spot.around given.now fifo e.now
         spot.line (length code.old.nodes) spot.next) code.old code.new) }
 {
     let at = code.at()?;
@@ -239,7 +242,8 @@ fn put_element_update(
     op: Op,
     e: &BoundExpr,
 ) -> Result<(), AllocError>
-    ensures { OnOk result (Puts (element_update_nodes (home_at scene.entry) spot.around variable index.now
+    ensures { OnOk result
+        (Puts (element_update_nodes (home_at scene.entry) spot.around variable index.now
         op e.now spot.line (length code.old.nodes) spot.next) code.old code.new) }
 {
     let at = code.at()?;
@@ -284,7 +288,8 @@ pub(crate) fn put_update(
     op: Op,
     e: &BoundExpr,
 ) -> Result<(), AllocError>
-    ensures { OnOk result (Puts (update_nodes (home_at scene.entry) spot.around into.now op e.now spot.line
+    ensures { OnOk result
+        (Puts (update_nodes (home_at scene.entry) spot.around into.now op e.now spot.line
         (length code.old.nodes) spot.next) code.old code.new) }
 {
     match into {

@@ -240,7 +240,8 @@ fn spend_process(
 ) -> Result<Option<u64>, AllocError>
     requires { AreWeighed weights.now functions.now }
     ensures { IfOk result (λ rest. IsLeft
-        (1 + body_size (sizes_within (length functions.now) functions.now) process.now.body) left rest) }
+        (1 + body_size (sizes_within
+        (length functions.now) functions.now) process.now.body) left rest) }
 {
     let w = weight_of(alloc, process.body.as_slice())?;
     if left == 0 {
@@ -260,7 +261,8 @@ fn spend_processes(
 ) -> Result<Option<u64>, AllocError>
     requires { AreWeighed weights.now functions.now }
     ensures { IfOk result (λ rest. IsLeft
-        (processes_size (sizes_within (length functions.now) functions.now) processes.now) left rest) }
+        (processes_size (sizes_within
+        (length functions.now) functions.now) processes.now) left rest) }
 {
     let mut rest = left;
     'processes: for process in processes {

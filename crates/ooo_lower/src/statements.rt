@@ -41,7 +41,8 @@ fn emit_print(
     spot: Spot,
     items: &[BoundItem],
 ) -> Result<(), AllocError>
-    ensures { OnOk result (Emits (print_shape spot.line items.now) spot.around spot.next code.old code.new) }
+    ensures { OnOk result
+        (Emits (print_shape spot.line items.now) spot.around spot.next code.old code.new) }
 {
     let after = behind(code.at()?, 1)?;
     let to = begins(items.len() as u64, after, spot.next);
@@ -85,7 +86,8 @@ fn emit_one(
     spot: Spot,
     simple: &BoundSimple,
 ) -> Result<(), AllocError>
-    ensures { OnOk result (Puts (counted (one_kind (home_at scene.entry) spot.around simple.now) spot.line
+    ensures { OnOk result
+        (Puts (counted (one_kind (home_at scene.entry) spot.around simple.now) spot.line
         spot.next ∷ []) code.old code.new) }
 {
     let kind = one_kind(alloc, scene, spot.around, simple)?;
@@ -104,10 +106,11 @@ fn emit_found(
     function: &BoundFunction,
     args: &[BoundExpr],
 ) -> Result<(), AllocError>
-    ensures { OnOk result (Emits (call_shape (home_at scene.entry) spot.line into.now args.now (Some (record {
-      function = function.now;
-      body = shape_within depth (home_at scene.entry) function.now.body;
-    })))
+    ensures { OnOk result
+        (Emits (call_shape (home_at scene.entry) spot.line into.now args.now (Some (record {
+          function = function.now;
+          body = shape_within depth (home_at scene.entry) function.now.body;
+        })))
         spot.around spot.next code.old code.new) }
 {
     let free = code.free()?;
@@ -170,7 +173,8 @@ fn emit_assign(
     into: &BoundTarget,
     right: &BoundRight,
 ) -> Result<(), AllocError>
-    ensures { OnOk result (Emits (assign_shape (home_at scene.entry) (callees_within depth (home_at scene.entry))
+    ensures { OnOk result
+        (Emits (assign_shape (home_at scene.entry) (callees_within depth (home_at scene.entry))
         spot.line into.now right.now) spot.around spot.next code.old code.new) }
 {
     match right {
@@ -208,7 +212,8 @@ fn emit_lined(
     next: u32,
     x: &LinedSimple,
 ) -> Result<(), AllocError>
-    ensures { OnOk result (Emits (lined_shape (home_at scene.entry) (callees_within depth (home_at scene.entry))
+    ensures { OnOk result
+        (Emits (lined_shape (home_at scene.entry) (callees_within depth (home_at scene.entry))
         x.now) around next code.old code.new) }
 {
     let spot = Spot {
@@ -251,7 +256,8 @@ fn emit_lineds(
     next: u32,
     xs: &[LinedSimple],
 ) -> Result<(), AllocError>
-    ensures { OnOk result (Emits (lined_shapes (home_at scene.entry) (callees_within depth (home_at scene.entry))
+    ensures { OnOk result
+        (Emits (lined_shapes (home_at scene.entry) (callees_within depth (home_at scene.entry))
         xs.now) around next code.old code.new) }
 {
     let mut left = of_lineds(scene, depth, xs)?.nodes;
@@ -275,7 +281,8 @@ fn emit_lead(
     spot: Spot,
     after: &Option<LinedSimple>,
 ) -> Result<(), AllocError>
-    ensures { OnOk result (EmitsLead (after_shape (home_at scene.entry) (callees_within depth (home_at scene.entry))
+    ensures { OnOk result
+        (EmitsLead (after_shape (home_at scene.entry) (callees_within depth (home_at scene.entry))
         after.now) spot.around spot.line code.old code.new) }
 {
     match after {
@@ -428,7 +435,8 @@ fn test_behind(
     body: &BoundStat,
 ) -> Result<u32, AllocError>
     ensures { IfOk result (λ n. n ≡ length code.now.nodes
-        + (shape_of (home_at scene.entry) (callees_within depth (home_at scene.entry)) body.now).size) }
+        + (shape_of (home_at scene.entry)
+        (callees_within depth (home_at scene.entry)) body.now).size) }
 {
     let size = of_stat(scene, depth, body)?.nodes;
     behind(code.at()?, narrow(size)?)
@@ -442,7 +450,8 @@ fn put_test(
     test: &BoundExpr,
     start: u32,
 ) -> Result<(), AllocError>
-    ensures { OnOk result (Puts (counted (kind.Test (lowered spot.around test.now) spot.next) spot.line start ∷ [])
+    ensures { OnOk result
+        (Puts (counted (kind.Test (lowered spot.around test.now) spot.next) spot.line start ∷ [])
         code.old code.new) }
 {
     let value = lowered(alloc, spot.around, test)?;
@@ -460,7 +469,8 @@ fn emit_else(
     next: u32,
     no: &Option<Boxed<BoundStat>>,
 ) -> Result<(), AllocError>
-    ensures { OnOk result (Emits (else_shape (home_at scene.entry) (callees_within depth (home_at scene.entry))
+    ensures { OnOk result
+        (Emits (else_shape (home_at scene.entry) (callees_within depth (home_at scene.entry))
         no.now) around next code.old code.new) }
 {
     match no {
@@ -479,7 +489,8 @@ fn emit_return(
     spot: Spot,
     value: &Option<BoundExpr>,
 ) -> Result<(), AllocError>
-    ensures { OnOk result (Puts (counted (return_kind spot.around value.now) spot.line spot.around.return_to ∷ [])
+    ensures { OnOk result
+        (Puts (counted (return_kind spot.around value.now) spot.line spot.around.return_to ∷ [])
         code.old code.new) }
 {
     let kind = return_kind(alloc, spot.around, value)?;
@@ -498,7 +509,8 @@ fn emit_stat(
     next: u32,
     stat: &BoundStat,
 ) -> Result<(), AllocError>
-    ensures { OnOk result (Emits (shape_of (home_at scene.entry) (callees_within depth (home_at scene.entry))
+    ensures { OnOk result
+        (Emits (shape_of (home_at scene.entry) (callees_within depth (home_at scene.entry))
         stat.now) around next code.old code.new) }
 {
     match stat {
@@ -560,7 +572,8 @@ pub(crate) fn emit_stats(
     next: u32,
     body: &[BoundStat],
 ) -> Result<(), AllocError>
-    ensures { OnOk result (Emits (shape_within depth (home_at scene.entry) body.now) around next code.old code.new) }
+    ensures { OnOk result
+        (Emits (shape_within depth (home_at scene.entry) body.now) around next code.old code.new) }
 {
     let mut left = of_stats(scene, depth, body)?.nodes;
     'parts: for stat in body {

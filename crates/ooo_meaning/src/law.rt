@@ -22,7 +22,8 @@ pub trait Relation<K, L> {
 
 /// A state has one run.
 pub fn one_run<K>()
-    ensures { (activate : Activate K) (order : List ℕ) (bounds : LimitsSpec) (s : State K) (r q : Result) →
+    ensures { (activate : Activate K) (order : List ℕ) (bounds : LimitsSpec) (s : State K)
+        (r q : Result) →
         IsWholeRun activate order bounds s r → IsWholeRun activate order bounds s q → r ≡ q }
 {}
 
@@ -51,5 +52,6 @@ pub fn every_run_ends<K>()
 /// Every design has a sequential run, within so many cycles.
 pub fn every_design_runs()
     ensures { (design : DesignSpec) (bounds : LimitsSpec) → 0 < bounds.deltas →
-        (r : Result) × (sequential_run design bounds ((bounds.stop.0 + 1) * (bounds.deltas + 1)) ≡ Some r) }
+        (r : Result) × (sequential_run design bounds ((bounds.stop.0 + 1) * (bounds.deltas + 1))
+        ≡ Some r) }
 {}

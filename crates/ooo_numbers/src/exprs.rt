@@ -175,7 +175,8 @@ pub(crate) fn option(
 
 // A time that is known before the simulation; one with which something is wrong counts as none.
 fn known_time(numbers: Numbers<'_>, given: &CheckedTime) -> Time
-    ensures { result ≡ time_in (constant_time_of (known_in (numbering_of numbers.entry)) given.now) }
+    ensures { result ≡ time_in
+        (constant_time_of (known_in (numbering_of numbers.entry)) given.now) }
 {
     let known = Known {
         file: numbers.file,

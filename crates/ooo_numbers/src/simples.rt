@@ -425,7 +425,8 @@ fn initial(
     kind: Kind,
     value: &Option<CheckedExpr>,
 ) -> Result<BoundRight, AllocError>
-    ensures { IfOk result (λ right. right ≡ initial_of (numbering_of numbers.entry) kind value.now) }
+    ensures { IfOk result
+        (λ right. right ≡ initial_of (numbering_of numbers.entry) kind value.now) }
 {
     match value {
         None => Ok(BoundRight::Value(BoundExpr::Constant(kind.zero()))),

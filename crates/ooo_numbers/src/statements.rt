@@ -42,7 +42,8 @@ fn local_stats(
     numbers: Numbers<'_>,
     given: &CheckedLocal,
 ) -> Result<Items<BoundStat>, AllocError>
-    ensures { IfOk result (λ all. all ≡ as_stats (local_of (numbering_of numbers.entry) given.now)) }
+    ensures { IfOk result
+        (λ all. all ≡ as_stats (local_of (numbering_of numbers.entry) given.now)) }
 {
     let kind = kind_written(given.form.form);
     declared(

@@ -36,7 +36,8 @@ fn is_type<'a>(symbols: &'a [Symbol<'a>]) -> Result<bool, AllocError>
 
 // Whether the symbols are `sc_signal < type`.
 fn is_signal_of_type<'a>(symbols: &'a [Symbol<'a>]) -> Result<bool, AllocError>
-    ensures { IfOk result (λ b. MatchBool b (IsSignalOfType symbols.now) (IsSignalOfType symbols.now → ⊥)) }
+    ensures { IfOk result
+        (λ b. MatchBool b (IsSignalOfType symbols.now) (IsSignalOfType symbols.now → ⊥)) }
 {
     match symbols {
         [_, second @ ..] => {
@@ -52,7 +53,8 @@ fn is_signal_of_type<'a>(symbols: &'a [Symbol<'a>]) -> Result<bool, AllocError>
 
 // Whether the symbols end in `sc_signal < type`.
 fn ends_in_signal_of_type<'a>(symbols: &'a [Symbol<'a>]) -> Result<bool, AllocError>
-    ensures { IfOk result (λ b. MatchBool b (EndsInSignalOfType symbols.now) (EndsInSignalOfType symbols.now → ⊥)) }
+    ensures { IfOk result
+        (λ b. MatchBool b (EndsInSignalOfType symbols.now) (EndsInSignalOfType symbols.now → ⊥)) }
 {
     for at in 0..symbols.len() {
         if is_signal_of_type(&symbols[at..])? {

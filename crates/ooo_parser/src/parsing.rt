@@ -41,7 +41,8 @@ fn refused<'a>(
     end: Position,
 ) -> ParseError
     requires { FailsBy (root_of start) symbols.now error }
-    ensures { (breach : BreachSpec) (place : PositionSpec) → result ≡ ParseError.Refused breach place →
+    ensures { (breach : BreachSpec) (place : PositionSpec) →
+        result ≡ ParseError.Refused breach place →
         IsRefused (root_of start) symbols.now end breach place }
 {
     readers();

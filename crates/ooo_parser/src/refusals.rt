@@ -66,7 +66,8 @@ fn of_symbol<'a>(
     end: Position,
 ) -> Result<Refusal, AllocError>
     requires { IsWithin (root_of start) read.now }
-    ensures { IfOk result (λ r. IsToldOf (root_of start) read.now symbol.entry later.now end r.breach r.place) }
+    ensures { IfOk result
+        (λ r. IsToldOf (root_of start) read.now symbol.entry later.now end r.breach r.place) }
 {
     if !opens_word(symbol) {
         return at_itself(read, symbol);
@@ -93,7 +94,8 @@ pub(crate) fn of_rest<'a>(
     end: Position,
 ) -> Result<Refusal, AllocError>
     requires { StopsAt (root_of start) read.now rest.now }
-    ensures { IfOk result (λ r. IsRefused (root_of start) (read.now ++ rest.now) end r.breach r.place) }
+    ensures { IfOk result
+        (λ r. IsRefused (root_of start) (read.now ++ rest.now) end r.breach r.place) }
 {
     match next(rest) {
         Some((symbol, later)) => of_symbol(alloc, start, read, symbol, later, end),

@@ -32,7 +32,8 @@ pub fn parse(alloc: Global, source: &[u8], tokens: &[Token]) -> Result<Unit, Par
     // The refused token, or the first one that is too deep, is there.
     ensures refused { (breach : ParseBreachSpec) (at : PositionSpec)
         → result ≡ Err (ParseError.Refused breach at)
-        → IsRefused whole_text (symbols_in source.now tokens.now) (position_of_end source.now) breach at }
+        → IsRefused whole_text (symbols_in source.now tokens.now)
+        (position_of_end source.now) breach at }
 {
     crate::law::anywhere();
     let symbols = symbols(alloc, source, tokens)?;

@@ -89,7 +89,8 @@ impl Names {
 
     /// Declares a name.
     pub(crate) fn push(&mut self, name: &[u8], denotes: Denotation) -> Result<(), AllocError>
-        ensures ok { OnOk result (self.new ≡ record { name = name.now; denotes = denotes } ∷ self.old) }
+        ensures ok { OnOk result
+            (self.new ≡ record { name = name.now; denotes = denotes } ∷ self.old) }
         ensures err { OnErr result (self.new ≡ self.old) }
         ensures small { OnOk result (length self.new < 2 ^ 64) }
     {

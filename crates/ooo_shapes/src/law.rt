@@ -33,7 +33,8 @@ pub fn sound_design()
 /// A process of a sound model has the same segments by its statements and by its nodes, past any number of waits: each
 /// touches the same, names the same events in triggers, and ends by the same waits.
 pub fn same_segments()
-    ensures { (b : BoundSpec) (p count : ℕ) (process : BoundProcessSpec) (own : ProcSpec) → IsSound b →
+    ensures { (b : BoundSpec) (p count : ℕ) (process : BoundProcessSpec) (own : ProcSpec) →
+        IsSound b →
         slice_get b.processes p ≡ Some process → slice_get (design_of b).processes p ≡ Some own →
         SameSegments b process (design_of b) own count (entered_all process.body []) Start }
 {}
@@ -41,17 +42,20 @@ pub fn same_segments()
 /// Where an activation by statements ends by a wait, it stands behind one that the statements come to from where it began,
 /// whichever way their tests go; or it is that of a method, and stands at its start.
 pub fn ends_behind_a_wait()
-    ensures { (b : BoundSpec) (process : BoundProcessSpec) (statements : ℕ) (place : Place) (v : View) →
+    ensures { (b : BoundSpec) (process : BoundProcessSpec) (statements : ℕ) (place : Place)
+        (v : View) →
         let ended = act_found b statements (Some process) place v in
         EndsBehind b process (without_values place.items) ended.deed.end ended.next.items }
 {}
 
 /// An activation by statements does the same on two views that agree on what its statements touch up to their next waits.
 pub fn reads_what_statements_touch()
-    ensures { (b : BoundSpec) (process : BoundProcessSpec) (statements : ℕ) (place : Place) (v w : View) →
+    ensures { (b : BoundSpec) (process : BoundProcessSpec) (statements : ℕ) (place : Place)
+        (v w : View) →
         AgreeOn (Touches b (without_values place.items)) v w →
         DidTheSame (Touches b (without_values place.items))
-        (act_found b statements (Some process) place v) (act_found b statements (Some process) place w) }
+        (act_found b statements (Some process) place v)
+        (act_found b statements (Some process) place w) }
 {
     own_steps_are_seen();
 }
@@ -59,8 +63,10 @@ pub fn reads_what_statements_touch()
 /// An activation by statements changes no variable and has no effect but on what its statements touch up to their next
 /// waits.
 pub fn changes_what_statements_touch()
-    ensures { (b : BoundSpec) (process : BoundProcessSpec) (statements : ℕ) (place : Place) (v : View) →
-        TouchesOnly (Touches b (without_values place.items)) v (act_found b statements (Some process) place v) }
+    ensures { (b : BoundSpec) (process : BoundProcessSpec) (statements : ℕ) (place : Place)
+        (v : View) →
+        TouchesOnly (Touches b (without_values place.items)) v
+        (act_found b statements (Some process) place v) }
 {
     own_steps_are_seen();
 }

@@ -147,7 +147,8 @@ pub(crate) fn begins_with_statement<'a>(tokens: &'a [Symbol<'a>]) -> bool
 
 /// Whether `SC_ZERO_TIME` or `sc_time` stands here.
 pub fn begins_with_named_time<'a>(tokens: &'a [Symbol<'a>]) -> bool
-    ensures { result ≡ begins_with (in_set (Terminal.ScZeroTime ∷ Terminal.ScTime ∷ [])) tokens.now }
+    ensures { result ≡ begins_with
+        (in_set (Terminal.ScZeroTime ∷ Terminal.ScTime ∷ [])) tokens.now }
 {
     match next(tokens) {
         Some((token, _)) => matches!(token.terminal, Terminal::ScZeroTime | Terminal::ScTime),

@@ -178,7 +178,8 @@ fn read_some_arguments<'a>(
     tokens: &'a [Symbol<'a>],
     limits: Limits,
 ) -> Read<'a, Items<Expr>>
-    ensures { Gives (reads_at limits (separated_inside Terminal.Comma inner_value refl) tokens.now) result }
+    ensures { Gives (reads_at limits
+        (separated_inside Terminal.Comma inner_value refl) tokens.now) result }
 {
     let (first, mut rest) = read_inner_value(alloc, tokens, limits)?;
     let mut list = Items::new(alloc);

@@ -15,7 +15,8 @@ pub(crate) fn joined<'a>(
     tokens: &[Token],
 ) -> Result<Vec<Symbol<'a>>, AllocError>
     requires { All (IsWithin source.bytes.now) tokens.now }
-    ensures { IfOk result (λ v. v.items ≡ joined None (map (single source.entry.bytes) tokens.now)) }
+    ensures { IfOk result
+        (λ v. v.items ≡ joined None (map (single source.entry.bytes) tokens.now)) }
 {
     let mut symbols = Vec::new(alloc);
     let mut pairs = None;
@@ -47,7 +48,8 @@ fn scope_after<'a, 't>(
     tokens: &'t [Token],
 ) -> Option<(Symbol<'a>, &'t [Token])>
     requires { All (IsWithin source.bytes.now) tokens.now }
-    ensures none { IfNone result (begins_pair symbol.entry (map (single source.entry.bytes) tokens.now) ≡ false) }
+    ensures none { IfNone result
+        (begins_pair symbol.entry (map (single source.entry.bytes) tokens.now) ≡ false) }
     ensures pair { IfSome result (λ found. is_pair symbol.entry found.0 ≡ true) }
     ensures next { IfSome result (λ found. map (single source.entry.bytes) tokens.now
         ≡ found.0 ∷ map (single source.entry.bytes) found.1.now) }
@@ -88,7 +90,8 @@ fn push_behind<'a>(
     pairs: Option<Symbol<'a>>,
     symbol: Symbol<'a>,
 ) -> Result<(), AllocError>
-    ensures { OnOk result (symbols.new.items ≡ symbols.old.items ++ behind pairs.entry symbol.entry) }
+    ensures { OnOk result
+        (symbols.new.items ≡ symbols.old.items ++ behind pairs.entry symbol.entry) }
 {
     match pairs {
         None => symbols.push(symbol)?,

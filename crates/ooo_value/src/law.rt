@@ -128,6 +128,7 @@ pub fn quotient_and_rest(a: Value, b: Value, quotient: Value, rest: Value)
 /// negative or above the greatest time.
 pub fn time_faults(amount: Value, unit: Scale)
     ensures ticks { IfOk (time_of amount unit) (λ t. pos t.0 ≡ ticks_in amount unit) }
-    ensures bad_time { (time_of amount unit ≡ Err fault.BadTime) ↔ (¬ IsTime (ticks_in amount unit)) }
+    ensures bad_time { (time_of amount unit ≡ Err fault.BadTime)
+        ↔ (¬ IsTime (ticks_in amount unit)) }
     ensures only { IfErr (time_of amount unit) (λ e. e ≡ fault.BadTime) }
 {}

@@ -144,7 +144,8 @@ impl Walk {
         initial: &[Evaluated],
     ) -> Result<(), AllocError>
         ensures { OnOk result (self.new ≡ instance_with (inside_of levels (filed modules.entry))
-            (view_at (filed modules.entry) number) number word.now declared.now initial.now self.old) }
+            (view_at (filed modules.entry) number) number
+            word.now declared.now initial.now self.old) }
     {
         let name = self.full_name(alloc, &word.name)?;
         self.add_object(alloc, word.position, &name)?;
@@ -219,7 +220,8 @@ impl Walk {
         view: View<'_>,
     ) -> Result<(), AllocError>
         ensures { OnOk result (self.new ≡ in_order
-            (member_of (inside_of levels (filed modules.entry)) (filed modules.entry) (viewed view.entry))
+            (member_of (inside_of levels (filed modules.entry)) (filed modules.entry)
+            (viewed view.entry))
             view.entry.members.now self.old) }
     {
         'parts: for e in view.members {
@@ -278,7 +280,8 @@ impl Walk {
         view: View<'_>,
         children: &CheckedChildren,
     ) -> Result<(), AllocError>
-        ensures { OnOk result (self.new ≡ in_order (child_of (inside_of levels (filed modules.entry))
+        ensures { OnOk result
+            (self.new ≡ in_order (child_of (inside_of levels (filed modules.entry))
             (filed modules.entry) (viewed view.entry) children.now.module_name.denotes.number)
             children.now.parts self.old) }
     {

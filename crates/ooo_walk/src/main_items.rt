@@ -150,7 +150,8 @@ impl Walk {
         args: &[CheckedArg],
     ) -> Result<(), AllocError>
         ensures { OnOk result (self.new
-            ≡ main_item_of (filed modules.entry) (CheckedMainItem.Instance module_name.now name.now args.now) self.old) }
+            ≡ main_item_of (filed modules.entry)
+            (CheckedMainItem.Instance module_name.now name.now args.now) self.old) }
     {
         let declared = args_evaluated(alloc, self.known(), args)?;
         let number = module_name.denotes.number;
@@ -205,7 +206,8 @@ impl Walk {
         modules: Modules<'_>,
         items: &[CheckedMainItem],
     ) -> Result<(), AllocError>
-        ensures { OnOk result (self.new ≡ in_order (main_item_of (filed modules.entry)) items.now self.old) }
+        ensures { OnOk result
+            (self.new ≡ in_order (main_item_of (filed modules.entry)) items.now self.old) }
     {
         'parts: for e in items {
             if self.refusal.is_none() {

@@ -198,7 +198,8 @@ impl Walk {
         declared: Option<Evaluated>,
         initial: Option<Evaluated>,
     ) -> Result<(), AllocError>
-        ensures { OnOk result (self.new ≡ plain_of is_const kind word.now declared initial self.old) }
+        ensures { OnOk result
+            (self.new ≡ plain_of is_const kind word.now declared initial self.old) }
     {
         if is_const {
             self.fixed(alloc, kind, word, declared, initial)
@@ -396,7 +397,8 @@ impl Walk {
         declared: Option<Evaluated>,
         initial: Option<Evaluated>,
     ) -> Result<(), AllocError>
-        ensures { OnOk result (self.new ≡ channel_of channel kind word.now declared initial self.old) }
+        ensures { OnOk result
+            (self.new ≡ channel_of channel kind word.now declared initial self.old) }
     {
         match channel {
             ChannelWord::Signal => self.signal(alloc, kind, word),
@@ -413,7 +415,8 @@ impl Walk {
         kind: Kind,
         part: &CheckedPart,
     ) -> Result<(), AllocError>
-        ensures { OnOk result (self.new ≡ part_of (viewed view.entry) channel kind part.now self.old) }
+        ensures { OnOk result
+            (self.new ≡ part_of (viewed view.entry) channel kind part.now self.old) }
     {
         let declared = option_evaluated(self.known(), value_among(args_given(&part.args)));
         let initial = self.initial_here(view);

@@ -53,7 +53,8 @@ fn tell_functions(
     functions: &[usize],
     told: &mut Option<TimeRefusal>,
 )
-    ensures { told.new ≡ told_times (viewed view.entry) (constants_of known.entry) told.old functions.now }
+    ensures { told.new ≡ told_times (viewed view.entry)
+        (constants_of known.entry) told.old functions.now }
 {
     'parts: for e in functions {
         tell_function(known, view.function(*e), told);
@@ -82,7 +83,8 @@ fn told(
 impl Walk {
     // A variable starts otherwise.
     fn start(&mut self, number: usize, answer: Result<Value, Fault>)
-        ensures { self.new ≡ with_start number (slice_get self.old.variables number) answer self.old }
+        ensures { self.new ≡ with_start number
+            (slice_get self.old.variables number) answer self.old }
     {
         if let Some(variable) = self.variables.get(number).copied() {
             let start = in_kind(variable.kind, answer);
@@ -198,7 +200,8 @@ impl Walk {
         place: usize,
         name: &Resolved,
     ) -> Result<(), AllocError>
-        ensures { OnOk result (self.new ≡ process_of (viewed view.entry) kind place name.now self.old) }
+        ensures { OnOk result
+            (self.new ≡ process_of (viewed view.entry) kind place name.now self.old) }
     {
         let full = self.full_name(alloc, &name.word.name)?;
         let told = told(alloc, view, self.known(), name.denotes.number)?;
