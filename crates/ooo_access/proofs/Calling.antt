@@ -1,22 +1,19 @@
 -- Notifications: those told as such, and those of channels' events.
-use Rattle.std.proofs.Common.{◌≡◌, ℕ, zero, suc, ◌+◌, ◌-◌, ◌<◌, ◌≤◌, List, [], ◌∷◌, ◌++◌, length, take, get_or, refl, ap, sym, ◌∙◌, subst, arith, inl, inr, ◌⊎◌, ◌↔◌, Option, Some, None, Bool, true, false, eqb}
+use Rattle.std.proofs.Common.{◌≡◌, ℕ, zero, suc, ◌+◌, ◌-◌, ◌<◌, List, [], ◌∷◌, ◌++◌, length, take, get_or, ap, sym, ◌∙◌, subst, arith, inl, inr, ◌⊎◌, ◌↔◌, Option, Some, None, Bool}
 use Rattle.std.specs.Prelude.{Contains, slice_get}
-use Rattle.std.proofs.lemmas.Bool.{eqb-true, eq-eqb}
 use Rattle.std.proofs.lemmas.List.{take_more}
-use Rattle.std.proofs.lemmas.List.Elements.{Contains-push, Contains-push_cases, Contains-append_left, Contains-append_right, Contains-append_cases}
+use Rattle.std.proofs.lemmas.List.Elements.{Contains-push, Contains-push_cases, Contains-append_left}
+use Rattle.ooo_lemmas.proofs.Placed.{at_push, at_end}
+use Rattle.ooo_lemmas.proofs.Contained.{not_in_none}
 use Rattle.ooo_time.specs.declared.time.Time.{Time}
 use Rattle.ooo_value.specs.declared.bound.BoundEvent.{BoundEvent}
 use Rattle.ooo_value.specs.declared.bound.BoundEvent.TheVariants as event
 use Rattle.ooo_code.specs.Touches as touch
-use Rattle.ooo_segments.specs.Numbers.{IsIn}
 use Rattle.ooo_access.specs.declared.told.Told.{Told}
 use Rattle.ooo_access.specs.declared.told.Told.TheVariants as tells
 use Rattle.ooo_access.specs.declared.told.Part.TheVariants as part
 use Rattle.ooo_access.specs.Calls.{IsCalled}
 use Rattle.ooo_access.specs.Notices.{Notice, AreInOrder}
-use Rattle.ooo_access.specs.Told.{meant, all_meant, number_of, IsTold}
-use Rattle.ooo_access.proofs.Orders.{in_first, in_later, first_or_later}
-use Rattle.ooo_access.proofs.NumberLemmas.{not_in_none, one_is}
 
 -- the notifications told as such, in order
 pub record HasDirect (told : List Told) (notices : List Notice) : Type 0 where
@@ -76,20 +73,10 @@ called_none changed taken given told notices h = record {
   in_order = h.in_order;
 }
 
-at_push : {A : Type 0} (xs : List A) (x y : A) (k : ℕ) → slice_get (xs ++ x ∷ []) k ≡ Some y → (slice_get xs k ≡ Some y) ⊎ ((k ≡ length xs) × (x ≡ y))
-at_push [] x y zero h = inr (refl, cc)
-at_push [] x y (suc k) h = absurd cc
-at_push (z ∷ zs) x y zero h = inl h
-at_push (z ∷ zs) x y (suc k) h = elim (at_push zs x y k h) [ inl a ↦ inl a | inr b ↦ let e = b.0 in inr (omega arith, b.1) ]
-
 at_earlier : {A : Type 0} (xs : List A) (x y : A) (k : ℕ) → slice_get xs k ≡ Some y → slice_get (xs ++ x ∷ []) k ≡ Some y
 at_earlier [] x y k h = absurd cc
 at_earlier (z ∷ zs) x y zero h = h
 at_earlier (z ∷ zs) x y (suc k) h = at_earlier zs x y k h
-
-at_last : {A : Type 0} (xs : List A) (x : A) → slice_get (xs ++ x ∷ []) (length xs) ≡ Some x
-at_last [] x = refl
-at_last (z ∷ zs) x = at_last zs x
 
 -- an event more, which is notified
 pub called_more : (changed taken given : List Bool) (events : List BoundEvent) (told : List Told) (notices notices' : List Notice) (e : ℕ) (event : BoundEvent) → HasCalled changed taken given events told notices → e ≡ length events → IsCalled changed taken given event → ((m : Notice) → Contains notices' m ↔ (Contains notices m ⊎ (m ≡ (e, None)))) → AreInOrder notices' → HasCalled changed taken given (events ++ event ∷ []) told notices'
@@ -99,7 +86,7 @@ called_more changed taken given events told notices notices' e event h len is g 
       | inl a ↦ elim ((h.has f t).0 a) [ inl b ↦ inl b | inr b ↦ inr (b.0, record { event = b.1.event; is = at_earlier events event b.1.event f b.1.is; called = b.1.called }) ]
       | inr q ↦
           let a : f ≡ length events = ap (λ (m : Notice). m.0) q ∙ len in
-          inr (ap (λ (m : Notice). m.1) q, record { event = event; is = subst (λ k. slice_get (events ++ event ∷ []) k ≡ Some event) (sym a) (at_last events event); called = is })
+          inr (ap (λ (m : Notice). m.1) q, record { event = event; is = subst (λ k. slice_get (events ++ event ∷ []) k ≡ Some event) (sym a) (at_end events event); called = is })
     ],
     λ w. elim w [
       | inl a ↦ (g (f, t)).1 (inl ((h.has f t).1 (inl a)))

@@ -1,7 +1,8 @@
 -- The lists of an access, by what was told; and the definition's access, by the nodes of a segment.
-use Rattle.std.proofs.Common.{◌≡◌, ℕ, List, [], ◌∷◌, ◌++◌, refl, ap, sym, ◌∙◌, subst, inl, inr, ◌⊎◌, ◌↔◌, Option, Some, None, Bool, true, false, cond}
+use Rattle.std.proofs.Common.{◌≡◌, ℕ, List, [], ◌∷◌, refl, sym, subst, inl, inr, ◌↔◌, Option, Some, None, Bool, true, false, cond}
 use Rattle.std.specs.Prelude.{Contains, slice_get, IsSomeAnd}
 use Rattle.std.proofs.lemmas.List.Elements.{Contains-append_left, Contains-append_right, Contains-append_cases}
+use Rattle.ooo_lemmas.proofs.Contained.{not_in_none, in_first, in_later, first_or_later}
 use Rattle.ooo_time.specs.declared.time.Time.{Time}
 use Rattle.ooo_value.specs.declared.bound.ProcessKind.{ProcessKind}
 use Rattle.ooo_value.specs.declared.bound.ProcessKind.TheVariants.{Thread, Method}
@@ -18,8 +19,6 @@ use Rattle.ooo_access.specs.declared.told.Told.{Told}
 use Rattle.ooo_access.specs.declared.told.Part.TheVariants as part
 use Rattle.ooo_access.specs.Access.{AreThose, Lists, IsAccessOf}
 use Rattle.ooo_access.specs.Told.{all_meant, touched_at, touched_of, triggers_at, triggers_of, waits_at, start_waits, entry_waits, IsTold}
-use Rattle.ooo_access.proofs.Orders.{in_first, in_later, first_or_later}
-use Rattle.ooo_access.proofs.NumberLemmas.{not_in_none}
 use Rattle.ooo_access.proofs.PartLemmas.{read_part, written_part, signal_read_part, signal_written_part, taken_part, put_part, cancelled_part}
 
 both_ways : {A B C : Type 0} → A ↔ B → B ↔ C → A ↔ C

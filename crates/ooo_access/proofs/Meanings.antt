@@ -1,8 +1,9 @@
 -- What is meant by what is told: which touches, and of which part.
-use Rattle.std.proofs.Common.{◌≡◌, ℕ, zero, suc, ◌+◌, ◌-◌, ◌<◌, ◌≤◌, List, [], ◌∷◌, ◌++◌, length, map, get_or, refl, ap, sym, ◌∙◌, subst, arith, inl, inr, ◌⊎◌, ◌↔◌, Option, Some, None, Bool, true, false, cond, eqb, add-zero}
+use Rattle.std.proofs.Common.{◌≡◌, ℕ, zero, suc, ◌+◌, ◌-◌, ◌≤◌, List, [], ◌∷◌, refl, ap, sym, ◌∙◌, subst, arith, inl, inr, ◌⊎◌, ◌↔◌, Option, Some, None, Bool, true, false, cond, add-zero}
 use Rattle.std.specs.Prelude.{Contains, slice_get}
 use Rattle.std.proofs.lemmas.Bool.{eqb-true, eq-eqb}
 use Rattle.std.proofs.lemmas.List.Elements.{Contains-append_left, Contains-append_right, Contains-append_cases}
+use Rattle.ooo_lemmas.proofs.Contained.{not_in_none, one_is, in_first, in_later, first_or_later, in_mapped, mapped_from}
 use Rattle.ooo_time.specs.declared.time.Time.{Time}
 use Rattle.ooo_value.specs.declared.bound.BoundEvent.{BoundEvent}
 use Rattle.ooo_value.specs.declared.bound.BoundEvent.TheVariants as event
@@ -10,13 +11,10 @@ use Rattle.ooo_code.specs.Touches as touch
 use Rattle.ooo_segments.specs.Numbers.{IsIn}
 use Rattle.ooo_access.specs.declared.told.Told.{Told}
 use Rattle.ooo_access.specs.declared.told.Told.TheVariants as tells
-use Rattle.ooo_access.specs.declared.told.Part.{Part}
 use Rattle.ooo_access.specs.declared.told.Part.TheVariants as part
 use Rattle.ooo_access.specs.Calls.{IsCalled}
-use Rattle.ooo_access.specs.Notices.{Notice, AreInOrder}
+use Rattle.ooo_access.specs.Notices.{Notice}
 use Rattle.ooo_access.specs.Told.{meant, all_meant, number_of, IsTold}
-use Rattle.ooo_access.proofs.Orders.{in_first, in_later, first_or_later}
-use Rattle.ooo_access.proofs.NumberLemmas.{not_in_none, one_is}
 use Rattle.ooo_access.proofs.Calling.{CalledAt, HasCalled}
 
 -- ---- one of what is told
@@ -87,22 +85,6 @@ in_where {A} test n (y ∷ ys) (suc k) x is p =
     at : (b : Bool) → test y ≡ b → Contains (touch.numbers_where test (n + 1) ys) (n + suc k) → Contains (cond b (n ∷ touch.numbers_where test (n + 1) ys) (touch.numbers_where test (n + 1) ys)) (n + suc k)
     at true e r = in_later n (n + suc k) (touch.numbers_where test (n + 1) ys) r
     at false e r = r
-
-mapped_from : {A B : Type 0} (f : A → B) (xs : List A) (y : B) → Contains (map f xs) y → (x : A) × Contains xs x × (f x ≡ y)
-mapped_from f [] y h = absurd (not_in_none y h)
-mapped_from f (x ∷ xs) y h =
-    elim (first_or_later (f x) y (map f xs) h) [
-      | inl e ↦ (x, in_first x xs, e)
-      | inr w ↦ let r = mapped_from f xs y w in (r.0, in_later x r.0 xs r.1, r.2)
-    ]
-
-in_mapped : {A B : Type 0} (f : A → B) (xs : List A) (x : A) → Contains xs x → Contains (map f xs) (f x)
-in_mapped f [] x h = absurd (not_in_none x h)
-in_mapped f (y ∷ ys) x h =
-    elim (first_or_later y x ys h) [
-      | inl e ↦ subst (λ z. Contains (f y ∷ map f ys) (f z)) e (in_first (f y) (map f ys))
-      | inr w ↦ in_later (f y) (f x) (map f ys) (in_mapped f ys x w)
-    ]
 
 -- what is notified for the next delta cycle is a number of these
 pub next_from : (test : BoundEvent → Bool) (events : List BoundEvent) (x : touch.Touch) → Contains (touch.notified_next (touch.numbers_where test 0 events)) x → (e : ℕ) × (x ≡ touch.Notifies e None) × PassesAt test 0 events e

@@ -1,20 +1,12 @@
 -- Sets of numbers that are added one after another.
-use Rattle.std.proofs.Common.{◌≡◌, ℕ, ◌+◌, ◌<◌, List, [], ◌∷◌, ◌++◌, length, take, get_or, refl, ap, sym, ◌∙◌, subst, arith, inl, inr, ◌⊎◌, ◌↔◌, Bool, Option, Some, None}
+use Rattle.std.proofs.Common.{◌≡◌, ℕ, ◌+◌, List, [], ◌∷◌, ◌++◌, ap, sym, ◌∙◌, subst, inl, inr, ◌⊎◌, ◌↔◌, Bool, Some, None}
 use Rattle.std.specs.Prelude.{Contains}
-use Rattle.std.proofs.lemmas.List.{take_more}
 use Rattle.std.proofs.lemmas.List.Elements.{Contains-push, Contains-push_cases, Contains-append_left, Contains-append_right, Contains-append_cases}
+use Rattle.ooo_lemmas.proofs.Contained.{not_in_none}
 use Rattle.ooo_segments.specs.Numbers.{IsIn}
 use Rattle.ooo_access.specs.declared.told.Told.{Told}
 use Rattle.ooo_access.specs.declared.told.Part.{Part}
 use Rattle.ooo_access.specs.Told.{number_of, IsTold}
-
--- nothing is in the empty list
-pub not_in_none : {A : Type 0} (x : A) → Contains [] x → ⊥
-not_in_none x h = let lt = h.1 in omega arith
-
--- what is in a list of one is that one
-pub one_is : {A : Type 0} (x y : A) → Contains (x ∷ []) y → x ≡ y
-one_is x y h = elim (Contains-push_cases [] x y h) [ inl n ↦ absurd (not_in_none y n) | inr e ↦ e ]
 
 -- a set has just what another had, and these numbers
 pub record Has (old new : List Bool) (numbers : List ℕ) : Type 0 where

@@ -1,22 +1,13 @@
 -- Notifications in order.
-use Rattle.std.proofs.Common.{◌≡◌, ℕ, zero, suc, ◌+◌, ◌-◌, ◌<◌, ◌≤◌, List, [], ◌∷◌, ◌++◌, length, take, drop, get_or, refl, ap, sym, ◌∙◌, subst, arith, inl, inr, ◌⊎◌, ◌↔◌, Option, Some, None, Bool, true, false}
-use Rattle.std.specs.Prelude.{Contains, AllPairs, All}
+use Rattle.std.proofs.Common.{◌≡◌, ℕ, zero, suc, ◌+◌, ◌-◌, ◌<◌, ◌≤◌, List, [], ◌∷◌, ◌++◌, length, take, drop, get_or, refl, ap, sym, subst, arith, inl, inr, ◌⊎◌, ◌↔◌, Option, Some, None}
+use Rattle.std.specs.Prelude.{Contains, All}
 use Rattle.std.proofs.lemmas.Bool.{cases_lt}
 use Rattle.std.proofs.lemmas.List.{take-append-drop, get_or_default}
 use Rattle.std.proofs.lemmas.List.Kept.{AllPairs-cons}
 use Rattle.std.proofs.lemmas.List.Elements.{All-nil, All-cons, All-append, All-take, All-drop, Contains-append_left, Contains-append_right, Contains-append_cases}
+use Rattle.ooo_lemmas.proofs.Contained.{in_first, in_later, first_or_later}
 use Rattle.ooo_time.specs.declared.time.Time.{Time}
 use Rattle.ooo_access.specs.Notices.{Notice, rank_of, IsNoticeBefore, AreInOrder}
-
-pub in_first : {A : Type 0} (x : A) (xs : List A) → Contains (x ∷ xs) x
-in_first x xs = (0, omega arith, refl)
-
-pub in_later : {A : Type 0} (x y : A) (xs : List A) → Contains xs y → Contains (x ∷ xs) y
-in_later x y xs h = (suc h.0, let below = h.1 in omega arith, h.2)
-
-pub first_or_later : {A : Type 0} (x y : A) (xs : List A) → Contains (x ∷ xs) y → (x ≡ y) ⊎ Contains xs y
-first_or_later x y xs (zero, lt, e) = inl e
-first_or_later x y xs (suc k, lt, e) = inr (k, omega arith, e)
 
 same_rank : (s t : Option Time) → rank_of s ≡ rank_of t → s ≡ t
 same_rank None None e = refl

@@ -1,14 +1,13 @@
 -- The parts of an access: what is told in a part is what is meant in it.
-use Rattle.std.proofs.Common.{◌≡◌, ℕ, List, [], ◌∷◌, ◌++◌, refl, ap, sym, ◌∙◌, subst, ◌↔◌, Option, Some, None}
+use Rattle.std.proofs.Common.{◌≡◌, ℕ, List, [], ◌∷◌, subst, ◌↔◌, Some}
 use Rattle.std.specs.Prelude.{Contains}
+use Rattle.ooo_lemmas.proofs.Contained.{one_is, in_first}
 use Rattle.ooo_value.specs.declared.bound.BoundEvent.{BoundEvent}
 use Rattle.ooo_code.specs.Touches as touch
 use Rattle.ooo_access.specs.declared.told.Told.{Told}
 use Rattle.ooo_access.specs.declared.told.Told.TheVariants as tells
 use Rattle.ooo_access.specs.declared.told.Part.TheVariants as part
 use Rattle.ooo_access.specs.Told.{meant, all_meant, number_of, IsTold}
-use Rattle.ooo_access.proofs.Orders.{in_first}
-use Rattle.ooo_access.proofs.NumberLemmas.{one_is}
 use Rattle.ooo_access.proofs.Meanings.{meant_by, in_meant, next_from}
 
 read_from : (events : List BoundEvent) (x : ℕ) (u : Told) → Contains (meant events u) (touch.Reads x) → number_of part.Read u ≡ Some x

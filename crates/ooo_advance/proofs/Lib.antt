@@ -1,4 +1,3 @@
-pub mod Ascending
 pub mod OrderLemmas
 pub mod LinkLemmas
 pub mod SettledLemmas

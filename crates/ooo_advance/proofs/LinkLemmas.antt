@@ -1,10 +1,12 @@
 -- Tables of the least delays of edges.
-use Rattle.std.proofs.Common.{◌≡◌, ℕ, zero, suc, ◌<◌, ◌≤◌, List, [], ◌∷◌, ◌++◌, length, get_or, Option, Some, None, refl, sym, ap, ◌∙◌, subst, arith, inl, inr, ◌⊎◌}
+use Rattle.std.proofs.Common.{◌≡◌, ℕ, zero, suc, ◌<◌, ◌≤◌, List, [], ◌∷◌, ◌++◌, length, Option, Some, None, refl, sym, ap, ◌∙◌, subst, arith, inl, inr, ◌⊎◌}
 use Rattle.std.specs.Prelude.{All, Contains, slice_get, slice_index_or}
 use Rattle.std.proofs.lemmas.Bool.{cases_eq}
 use Rattle.std.proofs.lemmas.List.{length_push, get_or_append_left, get_or_at}
 use Rattle.std.proofs.lemmas.List.Elements.{All-contains, All-from_get_or, Contains-push, Contains-push_cases, Contains-append_left}
 use Rattle.std.proofs.lemmas.Option.{slice_get_within}
+use Rattle.ooo_lemmas.proofs.Placed.{at_push, inside}
+use Rattle.ooo_lemmas.proofs.Contained.{not_in_none}
 use Rattle.ooo_time.specs.declared.time.Time.{Time}
 use Rattle.ooo_time.specs.declared.delay.Delay.{Delay}
 use Rattle.ooo_segments.specs.declared.graphs.Edge.{Edge}
@@ -20,20 +22,6 @@ use Rattle.ooo_advance.proofs.OrderLemmas.{at_most_trans}
 
 -- ---- lists
 
-pub at_push : {A : Type 0} (xs : List A) (x y : A) (k : ℕ) → slice_get (xs ++ x ∷ []) k ≡ Some y → (slice_get xs k ≡ Some y) ⊎ ((k ≡ length xs) × (x ≡ y))
-at_push [] x y zero h = inr (refl, cc)
-at_push [] x y (suc k) h = absurd cc
-at_push (z ∷ zs) x y zero h = inl h
-at_push (z ∷ zs) x y (suc k) h = elim (at_push zs x y k h) [ inl a ↦ inl a | inr b ↦ let e = b.0 in inr (omega arith, b.1) ]
-
-inside : {A : Type 0} (xs : List A) (n : ℕ) → n < length xs → (x : A) × (slice_get xs n ≡ Some x)
-inside [] n h = absurd (omega arith)
-inside (x ∷ xs) zero h = (x, refl)
-inside (x ∷ xs) (suc n) h = inside xs n (omega arith)
-
-not_in_none : {A : Type 0} (x : A) → Contains [] x → ⊥
-not_in_none x h = let lt = h.1 in omega arith
-
 -- a row has a segment for which it has a delay
 pub delay_within : (row : List (Option Delay)) (v : ℕ) (d : Delay) → delay_at row v ≡ Some d → v < length row
 delay_within [] v d h = absurd cc
@@ -45,10 +33,6 @@ row_within : (links : List (List (Option Delay))) (n v : ℕ) (d : Delay) → en
 row_within [] n v d h = absurd cc
 row_within (x ∷ xs) zero v d h = omega arith
 row_within (x ∷ xs) (suc n) v d h = let r = row_within xs n v d h in omega arith
-
--- what holds of each holds of what an index reads
-pub read_all : {A : Type 0} (P : A → Type 0) (xs : List A) (i : ℕ) (x : A) → i < length xs → x ≡ get_or xs i x → All P xs → P x
-read_all P xs i x lt is h = subst P (sym is) (h i x lt)
 
 -- ---- the least of some delays
 

@@ -2,6 +2,7 @@
 use Rattle.std.proofs.Common.{◌≡◌, refl, ◌∙◌, ap, sym, subst, ℕ, List, [], ◌∷◌, ◌++◌, length, Bool, true, false, Option, Some, None}
 use Rattle.std.specs.Prelude.{Contains, ◌&&◌, not, ◌==◌, is_some}
 use Rattle.std.specs.List.{AllByRecursion}
+use Rattle.ooo_lemmas.proofs.Each.{first_part, then_part}
 use Rattle.ooo_lexer.specs.declared.position.Position.{Position}
 use Rattle.ooo_value.specs.declared.kinds.Kind.{Kind}
 use Rattle.ooo_syntax.specs.declared.expr.Expr.{Expr, Expr-F, map-Expr, roll-Expr, out-Expr, fold-roll-Expr, ind-Expr}
@@ -25,7 +26,6 @@ use Rattle.ooo_checked.specs.Stats.{target_of, value_of, is_compound, option_not
 use Rattle.ooo_constants.specs.Bodies.{right_calls, initial_calls, simple_calls, step_calls, right_step as calls_step}
 use Rattle.ooo_right.specs.Right.{IsRight, AreRight}
 use Rattle.ooo_called.specs.Calls.{IsAmong, FunctionsAreAmong}
-use Rattle.ooo_called.proofs.Lists.{first_part, then_part}
 
 -- ---- inside an expression stands no call
 

@@ -1,4 +1,3 @@
 pub mod Exprs
-pub mod Lists
 pub mod Scopes
 pub mod Stats

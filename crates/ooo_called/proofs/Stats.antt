@@ -2,6 +2,7 @@
 use Rattle.std.proofs.Common.{◌≡◌, ◌∙◌, refl, ap, sym, subst, ℕ, List, [], ◌∷◌, ◌++◌, map, drop, Option, Some, None}
 use Rattle.std.specs.Prelude.{Contains}
 use Rattle.std.proofs.lemmas.List.Elements.{All-from_recursion}
+use Rattle.ooo_lemmas.proofs.Each.{of_both, first_part, then_part}
 use Rattle.ooo_value.specs.declared.kinds.Kind.{Kind}
 use Rattle.ooo_syntax.specs.declared.stat.Declarator.{Declarator}
 use Rattle.ooo_syntax.specs.declared.stat.Local.{Local}
@@ -22,7 +23,6 @@ use Rattle.ooo_constants.specs.Bodies.{all_of, initial_calls, declarator_calls, 
 use Rattle.ooo_right.specs.Right.{IsRight, AreRight}
 use Rattle.ooo_called.specs.Calls.{FunctionsAreAmong, CallsAreOfScope}
 use Rattle.ooo_called.proofs.Exprs.{Among, simple_among, step_among, initial_among}
-use Rattle.ooo_called.proofs.Lists.{of_both, first_part, then_part}
 use Rattle.ooo_called.proofs.Scopes.{declared_among, declared_outer}
 
 module _ (functions : List ℕ) where

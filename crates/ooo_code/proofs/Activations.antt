@@ -1,6 +1,8 @@
 -- An activation of a process depends on what its segment touches alone, and changes nothing else.
 use Rattle.std.proofs.Common.{◌≡◌, ℕ, zero, suc, List, Bool, true, false, if◌then◌else◌, Option, Some, None, refl, sym, subst}
 use Rattle.std.specs.Prelude.{slice_get}
+use Rattle.std.specs.List.{AllByRecursion}
+use Rattle.ooo_lemmas.proofs.Each.{each_contained}
 use Rattle.ooo_value.specs.declared.values.Value.{Value}
 use Rattle.ooo_code.specs.declared.activation.Frame.{Frame}
 use Rattle.ooo_code.specs.declared.activation.JobEnd.TheVariants as job
@@ -13,7 +15,6 @@ use Rattle.ooo_code.specs.Nodes.{Doing, Next, Running, act, at_node, pass, betwe
 use Rattle.ooo_code.specs.Touches.{Touch, touched_by}
 use Rattle.ooo_code.specs.Segments.{leads_to, Reaches, here, further, Accesses}
 use Rattle.ooo_code.specs.Dependence.{AgreeOn, DidTheSame, TouchesOnly}
-use Rattle.ooo_code.proofs.Lists.{Every, every_contained}
 use Rattle.ooo_code.proofs.Frames.{SameDoing, Alike, ends_alike, GoesAlike, act_alike}
 
 module _ (design : Design) (process : Proc) (entry : SegmentEntry) (first : List (List Value)) where
@@ -24,8 +25,8 @@ module _ (design : Design) (process : Proc) (entry : SegmentEntry) (first : List
   start = entry_node design process entry
 
   -- the nodes of the segment touch what it touches
-  touches : (n : ℕ) (node : Node) → Reaches design.nodes start n → slice_get design.nodes n ≡ Some node → Every T (touched_by design.events node.kind)
-  touches n node within is = every_contained T (touched_by design.events node.kind) (λ t c. record { number = n; node = node; within = within; is = is; touches = c })
+  touches : (n : ℕ) (node : Node) → Reaches design.nodes start n → slice_get design.nodes n ≡ Some node → AllByRecursion T (touched_by design.events node.kind)
+  touches n node within is = each_contained T (touched_by design.events node.kind) (λ t c. record { number = n; node = node; within = within; is = is; touches = c })
 
   module _ (r : Running) where
     -- what follows at each node of the segment is alike
@@ -36,7 +37,7 @@ module _ (design : Design) (process : Proc) (entry : SegmentEntry) (first : List
     node_alike : (go : Next) → AllAlike go → (n : ℕ) (node : Node) → Reaches design.nodes start n → slice_get design.nodes n ≡ Some node → (d e : Doing) → SameDoing T first d e → Alike T first (act r node.kind n node.line node.next go d) (act r node.kind n node.line node.next go e)
     node_alike go all n node within is d e h =
         act_alike T first r design.events n node.line node.next go node.kind (touches n node within is)
-        (every_contained (GoesAlike T first r go) (leads_to node.kind node.next) (λ m c. all m (further within is c))) d e h
+        (each_contained (GoesAlike T first r go) (leads_to node.kind node.next) (λ m c. all m (further within is c))) d e h
 
     AtNode : (Node → Next) → Type 0
     AtNode counted = (n : ℕ) (node : Node) → Reaches design.nodes start n → slice_get design.nodes n ≡ Some node → (d e : Doing) → SameDoing T first d e → Alike T first (counted node n d) (counted node n e)

@@ -1,6 +1,8 @@
 -- Between two nodes that count stand no more than a sound design has nodes.
-use Rattle.std.proofs.Common.{◌≡◌, ℕ, zero, suc, ◌+◌, ◌<◌, ◌≤◌, List, [], ◌∷◌, length, Bool, true, false, if◌then◌else◌, Option, Some, None, Result, Ok, Err, refl, sym, ap, ◌∙◌, subst, arith, ◌⊎◌, inl, inr, ⊎_elim}
+use Rattle.std.proofs.Common.{◌≡◌, ℕ, zero, suc, ◌+◌, ◌<◌, ◌≤◌, List, [], ◌∷◌, length, Bool, true, false, if◌then◌else◌, Option, Some, None, Result, Ok, Err, refl, subst, arith, ◌⊎◌, inl, inr, ⊎_elim}
 use Rattle.std.specs.Prelude.{slice_get, slice_set, Contains, IsTrue, IsSomeAnd}
+use Rattle.std.specs.List.{AllByRecursion}
+use Rattle.ooo_lemmas.proofs.Each.{each_contained}
 use Rattle.ooo_value.specs.declared.operators.Fault.{Fault}
 use Rattle.ooo_value.specs.declared.values.Value.{Value}
 use Rattle.ooo_value.specs.Values.{number_of, truth_of}
@@ -11,10 +13,9 @@ use Rattle.ooo_code.specs.declared.node.NodeKind.{NodeKind}
 use Rattle.ooo_code.specs.declared.node.NodeKind.TheVariants as kind
 use Rattle.ooo_code.specs.Outcomes.{Outcome}
 use Rattle.ooo_code.specs.Expressions.{cells_of, index_in, by_truth, reading_of}
-use Rattle.ooo_code.specs.Nodes.{Doing, sight_of, with_cells, Next, ends, Running, with_result, with_index, with_first, if_free, act, at_node, pass, between}
+use Rattle.ooo_code.specs.Nodes.{Doing, sight_of, with_cells, Next, Running, with_result, with_index, with_first, if_free, act, at_node, pass, between}
 use Rattle.ooo_code.specs.Segments.{successors, leads_to}
-use Rattle.ooo_code.specs.Sound.{IsRanked, CountsOrFalls}
-use Rattle.ooo_code.proofs.Lists.{Every, every_contained}
+use Rattle.ooo_code.specs.Sound.{IsRanked}
 
 not_both : (b : Bool) → IsTrue b → b ≡ false → ⊥
 not_both true t e = cc
@@ -48,7 +49,7 @@ module _ (r : Running) where
   abbrev pub GoesSame : Next → Next → ℕ → Type 0
   GoesSame go to n = (d : Doing) → go n d ≡ to n d
 
-  act_same : (go to : Next) (k : NodeKind) (number line next : ℕ) → Every (GoesSame go to) (leads_to k next) → (d : Doing) → act r k number line next go d ≡ act r k number line next to d
+  act_same : (go to : Next) (k : NodeKind) (number line next : ℕ) → AllByRecursion (GoesSame go to) (leads_to k next) → (d : Doing) → act r k number line next go d ≡ act r k number line next to d
   act_same go to (kind.Set n x) number line next h d = result_same line d _ _ _ (λ v. h.0 _)
   act_same go to (kind.Store x None y) number line next h d = result_same line d _ _ _ (λ v. h.0 _)
   act_same go to (kind.Store x (Some i) y) number line next h d =
@@ -100,7 +101,7 @@ module _ (r : Running) where
         choose node is go true e = refl
         choose node is go false e =
             act_same (pass nodes r counted m) (pass nodes r counted m') node.kind n node.line node.next
-            (every_contained (GoesSame (pass nodes r counted m) (pass nodes r counted m')) (leads_to node.kind node.next) (λ k c d. go k d (fewer m n k node is e h c) (fewer m' n k node is e h' c))) d
+            (each_contained (GoesSame (pass nodes r counted m) (pass nodes r counted m')) (leads_to node.kind node.next) (λ k c d. go k d (fewer m n k node is e h c) (fewer m' n k node is e h' c))) d
 
         at : (o : Option Node) → slice_get nodes n ≡ o → ((k : ℕ) (d : Doing) → Enough m k → Enough m' k → pass nodes r counted m k d ≡ pass nodes r counted m' k d) → at_node r counted (pass nodes r counted m) o n d ≡ at_node r counted (pass nodes r counted m') o n d
         at None is go = refl

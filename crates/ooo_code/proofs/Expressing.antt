@@ -1,10 +1,11 @@
 -- What an expression gives depends on what it reads alone.
 use Rattle.std.proofs.Common.{◌≡◌, ℕ, List, ◌++◌, refl, sym, ap, ◌∙◌, subst}
+use Rattle.std.specs.List.{AllByRecursion}
+use Rattle.ooo_lemmas.proofs.Each.{first_part, then_part}
 use Rattle.ooo_code.specs.declared.expression.NodeExpr.{NodeExpr, NodeExpr-F, ind-NodeExpr, map-NodeExpr, roll-NodeExpr, fold-roll-NodeExpr}
 use Rattle.ooo_code.specs.declared.expression.NodeExpr.TheOpen as layer
 use Rattle.ooo_code.specs.Expressions.{Sight, Reading, reading_step, reading_of, signal_seen, fifo_seen, cells_of}
 use Rattle.ooo_code.specs.Touches.{Touch, Reads, ReadsSignal, HoldsReading, HoldsWriting, reads_step, reads_of}
-use Rattle.ooo_code.proofs.Lists.{Every, every_left, every_right}
 
 reading_at : (y : NodeExpr-F NodeExpr) (s : Sight) → reading_of (roll-NodeExpr y) s ≡ reading_step (map-NodeExpr NodeExpr Reading reading_of y) s
 unfolding reading_of
@@ -24,14 +25,14 @@ pub record SameSight (T : Touch → Type 0) (a b : Sight) : Type 0 where
 
 module _ (T : Touch → Type 0) (a b : Sight) (same : SameSight T a b) where
   abbrev pub P : NodeExpr → Type 0
-  P e = Every T (reads_of e) → reading_of e a ≡ reading_of e b
+  P e = AllByRecursion T (reads_of e) → reading_of e a ≡ reading_of e b
 
   abbrev pub Shown : Type 0
   Shown = (e : NodeExpr) × P e
 
   -- the same for a layer whose parts have it
   abbrev pub Layer : NodeExpr-F Shown → Type 0
-  Layer y = Every T (reads_step (map-NodeExpr Shown (List Touch) (λ e. reads_of e.0) y)) → reading_step (map-NodeExpr Shown Reading (λ e. reading_of e.0) y) a ≡ reading_step (map-NodeExpr Shown Reading (λ e. reading_of e.0) y) b
+  Layer y = AllByRecursion T (reads_step (map-NodeExpr Shown (List Touch) (λ e. reads_of e.0) y)) → reading_step (map-NodeExpr Shown Reading (λ e. reading_of e.0) y) a ≡ reading_step (map-NodeExpr Shown Reading (λ e. reading_of e.0) y) b
 
   same_layer : (y : NodeExpr-F Shown) → Layer y
   same_layer (layer.Constant v) h = refl
@@ -48,14 +49,14 @@ module _ (T : Touch → Type 0) (a b : Sight) (same : SameSight T a b) where
   same_layer (layer.Invert e) h = rw (e.1 h) refl
   same_layer (layer.Not e) h = rw (e.1 h) refl
   same_layer (layer.Binary op e f) h =
-      rw (e.1 (every_left T (reads_of e.0) (reads_of f.0) h), f.1 (every_right T (reads_of e.0) (reads_of f.0) h)) refl
+      rw (e.1 (first_part T (reads_of e.0) (reads_of f.0) h), f.1 (then_part T (reads_of e.0) (reads_of f.0) h)) refl
   same_layer (layer.And e f) h =
-      rw (e.1 (every_left T (reads_of e.0) (reads_of f.0) h), f.1 (every_right T (reads_of e.0) (reads_of f.0) h)) refl
+      rw (e.1 (first_part T (reads_of e.0) (reads_of f.0) h), f.1 (then_part T (reads_of e.0) (reads_of f.0) h)) refl
   same_layer (layer.Or e f) h =
-      rw (e.1 (every_left T (reads_of e.0) (reads_of f.0) h), f.1 (every_right T (reads_of e.0) (reads_of f.0) h)) refl
+      rw (e.1 (first_part T (reads_of e.0) (reads_of f.0) h), f.1 (then_part T (reads_of e.0) (reads_of f.0) h)) refl
   same_layer (layer.Choose c e f) h =
-      let first = every_left T (reads_of c.0 ++ reads_of e.0) (reads_of f.0) h in
-      rw (c.1 (every_left T (reads_of c.0) (reads_of e.0) first), e.1 (every_right T (reads_of c.0) (reads_of e.0) first), f.1 (every_right T (reads_of c.0 ++ reads_of e.0) (reads_of f.0) h)) refl
+      let first = first_part T (reads_of c.0 ++ reads_of e.0) (reads_of f.0) h in
+      rw (c.1 (first_part T (reads_of c.0) (reads_of e.0) first), e.1 (then_part T (reads_of c.0) (reads_of e.0) first), f.1 (then_part T (reads_of c.0 ++ reads_of e.0) (reads_of f.0) h)) refl
 
   fused : (X : Type 0) (f : NodeExpr → X) (y : NodeExpr-F Shown) → map-NodeExpr NodeExpr X f (map-NodeExpr Shown NodeExpr (λ e. e.0) y) ≡ map-NodeExpr Shown X (λ e. f e.0) y
   fused X g (layer.Constant v) = refl
@@ -79,9 +80,9 @@ module _ (T : Touch → Type 0) (a b : Sight) (same : SameSight T a b) where
   step : (y : NodeExpr-F Shown) → P (roll-NodeExpr (map-NodeExpr Shown NodeExpr (λ e. e.0) y))
   step y every =
       let whole = map-NodeExpr Shown NodeExpr (λ e. e.0) y in
-      let touched = subst (Every T) (reads_at whole ∙ ap reads_step (fused (List Touch) reads_of y)) every in
+      let touched = subst (AllByRecursion T) (reads_at whole ∙ ap reads_step (fused (List Touch) reads_of y)) every in
       reading_at whole a ∙ ap (λ z. reading_step z a) (fused Reading reading_of y) ∙ same_layer y touched
       ∙ sym (reading_at whole b ∙ ap (λ z. reading_step z b) (fused Reading reading_of y))
 
-  pub same_reading : (e : NodeExpr) → Every T (reads_of e) → reading_of e a ≡ reading_of e b
+  pub same_reading : (e : NodeExpr) → AllByRecursion T (reads_of e) → reading_of e a ≡ reading_of e b
   same_reading e = ind-NodeExpr P (λ x y e. subst (λ x. P (roll-NodeExpr x)) e (step y)) e

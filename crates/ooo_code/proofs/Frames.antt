@@ -2,6 +2,9 @@
 use Rattle.std.proofs.Common.{◌≡◌, ℕ, zero, suc, List, [], ◌∷◌, ◌++◌, length, Bool, true, false, if◌then◌else◌, Option, Some, None, Result, Ok, Err, refl, sym, ap, ◌∙◌, subst}
 use Rattle.std.specs.Prelude.{slice_set}
 use Rattle.std.proofs.lemmas.List.{length-set, get_or-set_other}
+use Rattle.std.specs.List.{AllByRecursion}
+use Rattle.ooo_lemmas.proofs.Placed.{set_alike}
+use Rattle.ooo_lemmas.proofs.Each.{first_part, then_part}
 use Rattle.ooo_time.specs.TimeText.{time_text}
 use Rattle.ooo_value.specs.declared.bound.BoundEvent.{BoundEvent}
 use Rattle.ooo_value.specs.declared.bound.ProcessKind.{ProcessKind}
@@ -30,7 +33,6 @@ use Rattle.ooo_code.specs.Nodes.{Doing, sight_of, with_slot, with_cells, with_ou
 use Rattle.ooo_code.specs.Touches.{Touch, Writes, ReadsSignal, HoldsReading, HoldsWriting, reads_of, time_reads, wait_reads, touched_by, constant_delay}
 use Rattle.ooo_code.specs.Segments.{leads_to}
 use Rattle.ooo_code.specs.Dependence.{SameVariables, DidTheSame, IsEffectOf, AreEffectsOf}
-use Rattle.ooo_code.proofs.Lists.{Every, every_left, every_right, set_alike}
 use Rattle.ooo_code.specs.OwnSteps.{left_of, free_of}
 use Rattle.ooo_code.proofs.Sights.{signal_after_take, signal_after_put, values_after_take, free_after_take, values_after_put, free_after_put}
 use Rattle.ooo_code.proofs.Expressing.{SameSight, same_reading}
@@ -176,14 +178,14 @@ module _ (T : Touch → Type 0) (first : List (List Value)) where
 
     -- ---- one node
 
-    reading_same : (x : NodeExpr) → Every T (reads_of x) → (d e : Doing) → SameDoing d e → reading_of x (sight_of d) ≡ reading_of x (sight_of e)
+    reading_same : (x : NodeExpr) → AllByRecursion T (reads_of x) → (d e : Doing) → SameDoing d e → reading_of x (sight_of d) ≡ reading_of x (sight_of e)
     reading_same x t d e h = same_reading T (sight_of d) (sight_of e) (sight_same d e h) x t
 
-    time_same : (x : NodeTime) → Every T (time_reads x) → (d e : Doing) → SameDoing d e → time_given x (sight_of d) ≡ time_given x (sight_of e)
+    time_same : (x : NodeTime) → AllByRecursion T (time_reads x) → (d e : Doing) → SameDoing d e → time_given x (sight_of d) ≡ time_given x (sight_of e)
     time_same (time.Fixed k) t d e h = refl
     time_same (time.Amount x scale) t d e h = ap (time_by scale) (reading_same x t d e h)
 
-    wait_same : (x : Option NodeTime) → Every T (wait_reads x) → (d e : Doing) → SameDoing d e → wait_time x (sight_of d) ≡ wait_time x (sight_of e)
+    wait_same : (x : Option NodeTime) → AllByRecursion T (wait_reads x) → (d e : Doing) → SameDoing d e → wait_time x (sight_of d) ≡ wait_time x (sight_of e)
     wait_same None t d e h = refl
     wait_same (Some x) t d e h = ap some_time (time_same x t d e h)
 
@@ -192,16 +194,16 @@ module _ (T : Touch → Type 0) (first : List (List Value)) where
     GoesAlike go m = (d e : Doing) → SameDoing d e → Alike (go m d) (go m e)
 
     module _ (events : List BoundEvent) (number line to : ℕ) (go : Next) where
-      pub act_alike : (k : NodeKind) → Every T (touched_by events k) → Every (GoesAlike go) (leads_to k to) → (d e : Doing) → SameDoing d e → Alike (act r k number line to go d) (act r k number line to go e)
+      pub act_alike : (k : NodeKind) → AllByRecursion T (touched_by events k) → AllByRecursion (GoesAlike go) (leads_to k to) → (d e : Doing) → SameDoing d e → Alike (act r k number line to go d) (act r k number line to go e)
       act_alike (kind.Set n x) t l d e h =
           result_alike line _ _ (reading_same x t d e h) d e h _ _ (λ v. l.0 _ _ (slot_same n v d e h))
       act_alike (kind.Store x None y) t l d e h =
-          result_alike line _ _ (reading_same y (every_left T (reads_of y) [] t.1) d e h) d e h _ _ (λ v.
+          result_alike line _ _ (reading_same y (first_part T (reads_of y) [] t.1) d e h) d e h _ _ (λ v.
           let q = ap (λ c. slice_set c 0 v) (h.variables.written x t.0) in
           subst (λ c. Alike (go to (with_cells x (slice_set (cells_of d.variables x) 0 v) d)) (go to (with_cells x c e))) q (l.0 _ _ (cells_same x _ t.0 d e h)))
       act_alike (kind.Store x (Some i) y) t l d e h =
-          result_alike line _ _ (reading_same y (every_left T (reads_of y) (reads_of i) t.1) d e h) d e h _ _ (λ v.
-          result_alike line _ _ (reading_same i (every_right T (reads_of y) (reads_of i) t.1) d e h) d e h _ _ (λ w.
+          result_alike line _ _ (reading_same y (first_part T (reads_of y) (reads_of i) t.1) d e h) d e h _ _ (λ v.
+          result_alike line _ _ (reading_same i (then_part T (reads_of y) (reads_of i) t.1) d e h) d e h _ _ (λ w.
           index_alike line _ _ (ap (λ c. index_in (length c) (number_of w)) (h.variables.written x t.0)) d e h _ _ (λ j.
           let q = ap (λ c. slice_set c j v) (h.variables.written x t.0) in
           subst (λ c. Alike (go to (with_cells x (slice_set (cells_of d.variables x) j v) d)) (go to (with_cells x c e))) q (l.0 _ _ (cells_same x _ t.0 d e h)))))
@@ -213,14 +215,14 @@ module _ (T : Touch → Type 0) (first : List (List Value)) where
           result_alike line _ _ (reading_same x t d e h) d e h _ _ (λ v. l.0 _ _ (output_same (value_text v) d e h))
       act_alike kind.PrintTime t l d e h = l.0 _ _ (output_same (time_text r.stamp.time) d e h)
       act_alike (kind.Write c x) t l d e h =
-          result_alike line _ _ (reading_same x (every_left T (reads_of x) _ t.1) d e h) d e h _ _ (λ v. l.0 _ _ (effect_same (effect.Request c v) t.0 d e h))
+          result_alike line _ _ (reading_same x (first_part T (reads_of x) _ t.1) d e h) d e h _ _ (λ v. l.0 _ _ (effect_same (effect.Request c v) t.0 d e h))
       act_alike (kind.TestAvailable c no_to) t l d e h =
           first_alike _ _ (h.readable c t.0) _ _ _ _ (l.1.0 d e h) (λ v. l.0 d e h)
       act_alike (kind.TestFree c no_to) t l d e h = free_alike _ _ (h.writable c t.0) _ _ _ _ (l.1.0 d e h) (l.0 d e h)
       act_alike (kind.Take c n) t l d e h =
           first_alike _ _ (h.readable c t.0) _ _ _ _ (l.0 d e h) (λ v. l.0 _ _ (take_same c n v t.0 d e h))
       act_alike (kind.Put c x) t l d e h =
-          result_alike line _ _ (reading_same x (every_left T (reads_of x) _ t.1) d e h) d e h _ _ (λ v. l.0 _ _ (put_same c v t.0 d e h))
+          result_alike line _ _ (reading_same x (first_part T (reads_of x) _ t.1) d e h) d e h _ _ (λ v. l.0 _ _ (put_same c v t.0 d e h))
       act_alike (kind.Notify x k) t l d e h =
           result_alike line _ _ (time_same k t.1 d e h) d e h _ _ (λ v. l.0 _ _ (effect_same (effect.Notify x v) (constant_delay k, t.0) d e h))
       act_alike (kind.Cancel x) t l d e h = l.0 _ _ (effect_same (effect.Cancel x) t.0 d e h)

@@ -1,4 +1,3 @@
-pub mod Lists
 pub mod Sights
 pub mod Expressing
 pub mod Frames

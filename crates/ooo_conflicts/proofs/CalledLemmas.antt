@@ -1,8 +1,9 @@
 -- What accesses call, one after another.
-use Rattle.std.proofs.Common.{◌≡◌, ℕ, zero, suc, ◌+◌, ◌<◌, ◌≤◌, List, [], ◌∷◌, ◌++◌, length, take, get_or, refl, ap, sym, ◌∙◌, subst, arith, inl, inr, ◌⊎◌, ◌↔◌, Bool, Option, Some, None, true}
-use Rattle.std.specs.Prelude.{Contains, slice_get, slice_index_or, All, IsTrue}
-use Rattle.std.proofs.lemmas.List.{length_push, length-take-le}
-use Rattle.std.proofs.lemmas.Option.{slice_get_within, slice_get-get_or, get_or_from_slice_get}
+use Rattle.std.proofs.Common.{◌≡◌, ℕ, ◌+◌, List, [], ◌∷◌, ◌++◌, length, get_or, refl, sym, ◌∙◌, subst, arith, inl, inr, ◌⊎◌, ◌↔◌, Bool, Option, Some}
+use Rattle.std.specs.Prelude.{Contains, slice_get, All}
+use Rattle.std.proofs.lemmas.List.{length_push}
+use Rattle.std.proofs.lemmas.Option.{slice_get_within, slice_get-get_or}
+use Rattle.ooo_lemmas.proofs.Placed.{at_push}
 use Rattle.ooo_time.specs.declared.time.Time.{Time}
 use Rattle.ooo_value.specs.declared.bound.BoundEvent.{BoundEvent}
 use Rattle.ooo_code.specs.Sound.{IsOwn}
@@ -11,9 +12,8 @@ use Rattle.ooo_access.specs.declared.access.Access.{Access}
 use Rattle.ooo_conflicts.specs.declared.called.Called.{Called}
 use Rattle.ooo_conflicts.specs.declared.kind.ClashKind.{ClashKind}
 use Rattle.ooo_conflicts.specs.declared.kind.ClashKind.TheVariants.{Apart, Earlier, Same}
-use Rattle.ooo_conflicts.specs.Clashes.{Share, Calls, ShareVariable, ShareEvent, CallsWaited, ShareSignal, ShareFifo, ClashSame, ClashEarlier, Clash}
-use Rattle.ooo_conflicts.specs.Kinds.{AreCalled, AreListed, AllCalled, IsKindOf, IsRow, IsTable, is_clash, kind_at}
-use Rattle.ooo_conflicts.proofs.SetLemmas.{not_in_none}
+use Rattle.ooo_conflicts.specs.Clashes.{Share, Calls, ShareVariable, ShareEvent, CallsWaited, ShareSignal, ShareFifo}
+use Rattle.ooo_conflicts.specs.Kinds.{AreCalled, AreListed, AllCalled, IsKindOf, IsRow, IsTable}
 
 nothing : (empty : List Bool) (e : ℕ) → empty ≡ [] → IsIn empty e → ⊥
 nothing xs e q y = let z = subst (λ ys. IsIn ys e) q y in cc
@@ -40,12 +40,6 @@ called_is events a empty first both own all owned none f g n h m = record { all 
       λ w. let r = (h e).0 ((m.same e).0 w) in ((calls e).0 r.0, r.1),
       λ w. (m.same e).1 ((h e).1 ((calls e).1 w.0, w.1)),
     )
-
-pub at_push : {A : Type 0} (xs : List A) (x y : A) (k : ℕ) → slice_get (xs ++ x ∷ []) k ≡ Some y → (slice_get xs k ≡ Some y) ⊎ ((k ≡ length xs) × (x ≡ y))
-at_push [] x y zero h = inr (refl, cc)
-at_push [] x y (suc k) h = absurd cc
-at_push (z ∷ zs) x y zero h = inl h
-at_push (z ∷ zs) x y (suc k) h = elim (at_push zs x y k h) [ inl a ↦ inl a | inr b ↦ let e = b.0 in inr (omega arith, b.1) ]
 
 -- what the accesses so far call
 pub record CalledSoFar (events : List BoundEvent) (access : List Access) (i : ℕ) (called : List Called) : Type 0 where

@@ -1,16 +1,12 @@
 -- Sets of numbers that are added one after another.
-use Rattle.std.proofs.Common.{◌≡◌, ℕ, ◌+◌, ◌<◌, List, [], ◌∷◌, ◌++◌, length, take, get_or, refl, ap, sym, ◌∙◌, subst, arith, inl, inr, ◌⊎◌, ◌↔◌, Bool, Option, Some, None, true, false}
-use Rattle.std.specs.Prelude.{Contains, slice_get, All}
+use Rattle.std.proofs.Common.{◌≡◌, ℕ, ◌+◌, List, [], ◌∷◌, ◌++◌, ap, sym, ◌∙◌, subst, inl, inr, ◌⊎◌, ◌↔◌, Bool, Option, true, false}
+use Rattle.std.specs.Prelude.{Contains}
 use Rattle.std.proofs.lemmas.Bool.{false≢true}
-use Rattle.std.proofs.lemmas.List.{take_more}
-use Rattle.std.proofs.lemmas.Option.{slice_get-get_or}
 use Rattle.std.proofs.lemmas.List.Elements.{Contains-push, Contains-push_cases, Contains-append_left}
+use Rattle.ooo_lemmas.proofs.Contained.{not_in_none}
 use Rattle.ooo_time.specs.declared.time.Time.{Time}
 use Rattle.ooo_segments.specs.Numbers.{IsIn}
 use Rattle.ooo_conflicts.specs.Clashes.{Share}
-
-pub not_in_none : {A : Type 0} (x : A) → Contains [] x → ⊥
-not_in_none x h = let lt = h.1 in omega arith
 
 -- a set has just what another had, and these numbers
 pub record Has (old new : List Bool) (numbers : List ℕ) : Type 0 where
@@ -95,11 +91,3 @@ or_else P Q r s p e q = (λ h. inr (q.0 h), λ h. elim h [ inl a ↦ absurd (fal
 
 pub share_back : (xs ys : List ℕ) (r : Bool) → (r ≡ true) ↔ Share xs ys → (r ≡ true) ↔ Share ys xs
 share_back xs ys r h = (λ e. let s = h.0 e in (s.0, s.2, s.1), λ s. h.1 (s.0, s.2, s.1))
-
--- what an index reads is what a look-up gives
-pub read_is : {A : Type 0} (xs : List A) (i : ℕ) (x : A) → i < length xs → x ≡ get_or xs i x → slice_get xs i ≡ Some x
-read_is xs i x lt is = slice_get-get_or xs i x lt ∙ ap Some (sym is)
-
--- and what holds of each holds of it
-pub read_all : {A : Type 0} (P : A → Type 0) (xs : List A) (i : ℕ) (x : A) → i < length xs → x ≡ get_or xs i x → All P xs → P x
-read_all P xs i x lt is h = subst P (sym is) (h i x lt)

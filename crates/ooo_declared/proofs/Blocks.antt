@@ -5,6 +5,8 @@ use Rattle.std.specs.Cmp.Lexicographic.{bytes_decides, nat_list_eq_equiv}
 use Rattle.std.specs.Str.{bytes_eq}
 use Rattle.std.proofs.lemmas.Bool.{cond-true, cond-false}
 use Rattle.std.proofs.lemmas.List.{append-nil}
+use Rattle.ooo_lemmas.proofs.Placed.{kept_at, at_end, at_push}
+use Rattle.ooo_lemmas.proofs.Each.{first_part, then_part}
 use Rattle.ooo_syntax.specs.declared.leaves.Word.{Word}
 use Rattle.ooo_checked.specs.declared.breach.TypeBreach.TheVariants as what
 use Rattle.ooo_checked.specs.declared.denotation.Denotation.{Denotation}
@@ -17,7 +19,6 @@ use Rattle.ooo_checked.specs.Stats.{Stepped, in_order}
 use Rattle.ooo_members.specs.Declarations.{denotation_of, name_of}
 use Rattle.ooo_right.specs.Right.{AreRight, IsRight}
 use Rattle.ooo_declared.proofs.Entries.{Entry, entries_by, entry}
-use Rattle.ooo_declared.proofs.Lists.{at_end, first_part, kept_at, last_or, then_part}
 
 -- a name of a module's member is declared as a thing that stands so among its members' things: what a function gives is
 -- left out, and an instance stands for any
@@ -110,13 +111,13 @@ module _ (block : List Binding) (es : List Entry) (name : List ℕ) (d : Denotat
 
   later_numbered : found_in block name ≡ None → ((x : ℕ) (e : Entry) → slice_get es x ≡ Some e → IsNumbered block e.name x) →
       (x : ℕ) (e : Entry) → slice_get (es ++ last ∷ []) x ≡ Some e → IsNumbered (bound name d ∷ block) e.name x
-  later_numbered new before x e h = elim (last_or es last x e h) [
+  later_numbered new before x e h = elim (at_push es last e x h) [
     | inl at ↦ other_numbered new e.name x (before x e at)
     | inr same ↦
         subst (λ (f : Entry). IsNumbered (bound name d ∷ block) f.name x) same.1 (record {
           denotes = d;
           found = cond-true (bytes_eq name name) (Some d) (found_in block name) (nat_list_eq_equiv.refl name);
-          number = number ∙ same.0;
+          number = number ∙ sym same.0;
         })
   ]
 

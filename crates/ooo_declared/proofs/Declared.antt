@@ -4,6 +4,8 @@ use Rattle.std.proofs.lemmas.Option.{slice_get_within}
 use Rattle.std.specs.List.{AllZip}
 use Rattle.std.specs.Option.{unwrap_or}
 use Rattle.std.specs.Prelude.{Contains, slice_get}
+use Rattle.ooo_lemmas.proofs.Contained.{contains_place, contains_at}
+use Rattle.ooo_lemmas.proofs.Each.{first_part}
 use Rattle.ooo_lexer.specs.declared.position.Position.{Position}
 use Rattle.ooo_syntax.specs.declared.module.Function.{Function}
 use Rattle.ooo_syntax.specs.declared.module.Member.{Member}
@@ -28,7 +30,7 @@ use Rattle.ooo_right.specs.Right.{AreRight, IsRight}
 use Rattle.ooo_declared.specs.Names.{ChildrenStandBefore, FunctionsAreOfText, NamesStand, StandsIn}
 use Rattle.ooo_declared.proofs.Blocks.{IsAs, IsNumbered, IsOn}
 use Rattle.ooo_declared.proofs.Entries.{Entry, entries_in, entries_of, entry, things_by}
-use Rattle.ooo_declared.proofs.Lists.{contains_at, contains_place, first_part, image_at, zip_back}
+use Rattle.ooo_declared.proofs.Lists.{image_at, zip_back}
 use Rattle.ooo_declared.proofs.Members.{IsReadAs, all_things, members_read, names_read}
 use Rattle.ooo_declared.proofs.Places.{IsOf, entry_placed}
 

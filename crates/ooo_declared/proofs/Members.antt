@@ -3,6 +3,7 @@ use Rattle.std.proofs.Common.{◌≡◌, ◌∙◌, refl, sym, ap, subst, ℕ, L
 use Rattle.std.proofs.Math.Path.{ap₂}
 use Rattle.std.proofs.lemmas.List.{append-nil, map-append}
 use Rattle.std.specs.List.{AllZip}
+use Rattle.ooo_lemmas.proofs.Each.{first_part, then_part}
 use Rattle.ooo_value.specs.declared.kinds.Kind.{Kind}
 use Rattle.ooo_value.specs.declared.kinds.Kind.TheVariants as kind
 use Rattle.ooo_syntax.specs.declared.leaves.Word.{Word}
@@ -34,7 +35,6 @@ use Rattle.ooo_right.specs.Right.{AreRight, IsRight}
 use Rattle.ooo_walked.specs.Names.{things_in, things_of}
 use Rattle.ooo_declared.proofs.Entries.{Entry, entries_in, entries_of, things_by, things_same}
 use Rattle.ooo_declared.proofs.Blocks.{IsAs, IsOn, name_step, names_step, none_yet}
-use Rattle.ooo_declared.proofs.Lists.{first_part, then_part}
 
 -- ---- names
 

@@ -4,6 +4,7 @@ use Rattle.std.proofs.lemmas.List.{length-map, length-replicate}
 use Rattle.std.proofs.lemmas.Option.{slice_get_within}
 use Rattle.std.specs.Prelude.{slice_get, replicate, IsSome}
 use Rattle.std.specs.List.{AllZip}
+use Rattle.ooo_lemmas.proofs.Placed.{behind_at, replicated_or}
 use Rattle.ooo_value.specs.declared.kinds.Kind.{Kind}
 use Rattle.ooo_syntax.specs.declared.module.ChannelWord.{ChannelWord}
 use Rattle.ooo_syntax.specs.declared.module.ChannelWord.TheVariants as channel_word
@@ -23,7 +24,7 @@ use Rattle.ooo_walk.specs.Plans.{as_function, member_placed, names_in, places_fr
 use Rattle.ooo_walked.specs.Names.{channel_thing, field_thing, things_in, things_of}
 use Rattle.ooo_declared.specs.Names.{FunctionsAreThere}
 use Rattle.ooo_declared.proofs.Entries.{Entry, entries_in, entries_of}
-use Rattle.ooo_declared.proofs.Lists.{before_at, behind_at, first_or, mapped_at, only_at, replicated_at, replicated_or}
+use Rattle.ooo_declared.proofs.Lists.{before_at, first_or, mapped_at, only_at, replicated_at}
 use Rattle.ooo_declared.proofs.Members.{IsReadAs, things_read}
 
 -- a member declares as many things as names

@@ -1,10 +1,6 @@
 -- Lists of which something holds at each element.
-use Rattle.std.proofs.Common.{List, [], ◌∷◌, ◌++◌, map}
+use Rattle.std.proofs.Common.{List, [], ◌∷◌, map}
 use Rattle.std.specs.List.{AllByRecursion}
-
-pub of_both : {A : Type 0} (P : A → Type 0) (xs ys : List A) → AllByRecursion P xs → AllByRecursion P ys → AllByRecursion P (xs ++ ys)
-of_both P [] ys h g = g
-of_both P (x ∷ xs) ys h g = (h.0, of_both P xs ys h.1 g)
 
 pub of_weaker : {A : Type 0} (P Q : A → Type 0) → ((x : A) → P x → Q x) → (xs : List A) → AllByRecursion P xs → AllByRecursion Q xs
 of_weaker P Q f [] h = h

@@ -5,6 +5,7 @@ use Rattle.std.specs.List.{AllByRecursion}
 use Rattle.std.specs.Option.{unwrap_or}
 use Rattle.std.specs.Str.{bytes_eq}
 use Rattle.std.proofs.lemmas.List.Elements.{All-from_recursion}
+use Rattle.ooo_lemmas.proofs.Each.{of_both}
 use Rattle.ooo_lexer.specs.declared.position.Position.{Position}
 use Rattle.ooo_value.specs.declared.kinds.Kind.{Kind}
 use Rattle.ooo_syntax.specs.declared.expr.Expr.{Expr}
@@ -40,7 +41,7 @@ use Rattle.ooo_activation.specs.Kinds.{joined, list_of, simples_step, simples_of
 use Rattle.ooo_activation.specs.Sound.{FitsExpr, FitsSimple}
 use Rattle.ooo_fitting.specs.Naming.{Leave, MeansThing, Agrees, HasEvents, MayAllBeNoted}
 use Rattle.ooo_fitting.specs.Bodies.{FitsWith, BodiesFit}
-use Rattle.ooo_fitting.proofs.Lists.{of_both, of_weaker, of_mapped}
+use Rattle.ooo_fitting.proofs.Lists.{of_weaker, of_mapped}
 use Rattle.ooo_fitting.proofs.Noted.{no, first_noted, then_noted, so}
 use Rattle.ooo_fitting.proofs.Exprs.{constant_fits, expr_fits}
 use Rattle.ooo_fitting.proofs.Simples.{GoodRight, GoodSimple, right_good, assign_good, quiet_good, simple_good}

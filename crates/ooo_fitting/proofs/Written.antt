@@ -3,6 +3,7 @@ use Rattle.std.proofs.Common.{◌≡◌, ◌∙◌, ap, sym, subst, ℕ, List, [
 use Rattle.std.specs.Prelude.{Contains, ◌&&◌, not, ◌==◌, is_some, if◌then◌else◌}
 use Rattle.std.specs.List.{AllByRecursion}
 use Rattle.std.proofs.lemmas.List.Elements.{recursion_from_All}
+use Rattle.ooo_lemmas.proofs.Each.{of_both, first_part, then_part}
 use Rattle.ooo_lexer.specs.declared.position.Position.{Position}
 use Rattle.ooo_value.specs.declared.kinds.Kind.{Kind}
 use Rattle.ooo_syntax.specs.declared.leaves.Word.{Word}
@@ -50,15 +51,6 @@ use Rattle.ooo_checked.specs.Things.{argument_count, gives_nothing, has_effect, 
 use Rattle.ooo_constants.specs.Bodies.{all_of, right_calls, initial_calls, declarator_calls, simple_calls, step_calls, start_calls, stat_calls, stat_calls_step, body_calls, right_step as calls_step}
 use Rattle.ooo_fitting.specs.Naming.{Leave, MayBeNoted, MayAllBeNoted}
 use Rattle.ooo_fitting.specs.Written.{MayBeWritten, MayAllBeWritten, CallsAreWritten}
-use Rattle.ooo_fitting.proofs.Lists.{of_both}
-
-first_part : {A : Type 0} (P : A → Type 0) (xs ys : List A) → AllByRecursion P (xs ++ ys) → AllByRecursion P xs
-first_part P [] ys h = tt
-first_part P (x ∷ xs) ys h = (h.0, first_part P xs ys h.1)
-
-then_part : {A : Type 0} (P : A → Type 0) (xs ys : List A) → AllByRecursion P (xs ++ ys) → AllByRecursion P ys
-then_part P [] ys h = h
-then_part P (x ∷ xs) ys h = then_part P xs ys h.1
 
 module _ (l : Leave) where
   -- what may be written may be noted, where these calls may be made

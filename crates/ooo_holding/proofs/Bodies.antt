@@ -1,6 +1,7 @@
 -- What a body touches is among what is collected of who holds which ends.
 use Rattle.std.proofs.Common.{◌≡◌, refl, sym, subst, ℕ, List, [], ◌∷◌, ◌++◌, map, append_assoc, Option, Some, None}
 use Rattle.std.specs.List.{AllByRecursion}
+use Rattle.ooo_lemmas.proofs.Each.{of_both, first_part, then_part}
 use Rattle.ooo_value.specs.declared.bound.BoundEvent.{BoundEvent}
 use Rattle.ooo_code.specs.Touches.{Touch, Reads, Writes, ReadsSignal, WritesSignal, HoldsReading, HoldsWriting, Notifies, Cancels, notified_next, numbers_where, is_of_signal, is_data_written, is_data_read}
 use Rattle.ooo_bound.specs.declared.expr.BoundExpr.{BoundExpr, BoundExpr-F, map-BoundExpr, roll-BoundExpr, fold-roll-BoundExpr, ind-BoundExpr}
@@ -25,18 +26,6 @@ use Rattle.ooo_elaborate.specs.Ends.{Holding, expr_step, expr_holds, exprs_hold,
 use Rattle.ooo_activation.specs.Kinds.{joined, list_of, simples_step, simples_of, simples_in, right_calls, simple_calls}
 use Rattle.ooo_activation.specs.Touches.{Touched, Called, Callees, reads_step, reads_of, option_reads, arguments_read, time_reads, wait_reads, target_touches, target_reads, take_touches, put_touches, call_touches, right_touches, item_reads, items_read, simple_touches, simples_touch, after_touches, all_touch, touches_step, touches_of, body_touches, constant_delay}
 use Rattle.ooo_holding.proofs.Grown.{Covered, Grows, stays, grows_on, holds_grows, writing_holds, reading_holds, writer_goes_on, reader_goes_on}
-
-pub of_both : {A : Type 0} (P : A → Type 0) (xs ys : List A) → AllByRecursion P xs → AllByRecursion P ys → AllByRecursion P (xs ++ ys)
-of_both P [] ys h g = g
-of_both P (x ∷ xs) ys h g = (h.0, of_both P xs ys h.1 g)
-
-pub of_first : {A : Type 0} (P : A → Type 0) (xs ys : List A) → AllByRecursion P (xs ++ ys) → AllByRecursion P xs
-of_first P [] ys h = tt
-of_first P (x ∷ xs) ys h = (h.0, of_first P xs ys h.1)
-
-pub of_then : {A : Type 0} (P : A → Type 0) (xs ys : List A) → AllByRecursion P (xs ++ ys) → AllByRecursion P ys
-of_then P [] ys h = h
-of_then P (x ∷ xs) ys h = of_then P xs ys h.1
 
 -- process p, and what is known of called functions where all has been collected
 module _ (p : ℕ) (K : List Held → Type 0) where
@@ -269,8 +258,8 @@ module _ (p : ℕ) (K : List Held → Type 0) where
     parts_step (x ∷ xs) i hs =
         let ys : List BoundStat = map (λ x. x.0) xs in
         both hs (stat_holds p x.0 hs) _ (touches_of events callees x.0) (all_touch (map (touches_of events callees) ys))
-        (x.1 (of_first _ (simples_of x.0) (joined (map simples_of ys)) i) hs)
-        (parts_step xs (of_then _ (simples_of x.0) (joined (map simples_of ys)) i) (stat_holds p x.0 hs))
+        (x.1 (first_part _ (simples_of x.0) (joined (map simples_of ys)) i) hs)
+        (parts_step xs (then_part _ (simples_of x.0) (joined (map simples_of ys)) i) (stat_holds p x.0 hs))
 
     stat_steps : (y : BoundStat-F Shown) → Claim (roll-BoundStat (map-BoundStat Shown BoundStat (λ x. x.0) y))
     stat_steps (stat.Block xs) = stat_form (stat.Block (map (λ x. x.0) xs)) (λ i hs. parts_step xs i hs)
@@ -279,14 +268,14 @@ module _ (p : ℕ) (K : List Held → Type 0) where
         let h1 = expr_holds p e hs in
         let h2 = stat_holds p x.0 h1 in
         both hs h2 h2 (reads_of e ++ touches_of events callees x.0) []
-        (both hs h1 h2 (reads_of e) (touches_of events callees x.0) (expr_reads e hs) (x.1 (of_first _ (simples_of x.0) [] i) h1))
+        (both hs h1 h2 (reads_of e) (touches_of events callees x.0) (expr_reads e hs) (x.1 (first_part _ (simples_of x.0) [] i) h1))
         (nothing h2))
     stat_steps (stat.If line e x (Some y)) = stat_form (stat.If line e x.0 (Some y.0)) (λ i hs.
         let h1 = expr_holds p e hs in
         let h2 = stat_holds p x.0 h1 in
         both hs h2 (stat_holds p y.0 h2) (reads_of e ++ touches_of events callees x.0) (touches_of events callees y.0)
-        (both hs h1 h2 (reads_of e) (touches_of events callees x.0) (expr_reads e hs) (x.1 (of_first _ (simples_of x.0) (simples_of y.0) i) h1))
-        (y.1 (of_then _ (simples_of x.0) (simples_of y.0) i) h2))
+        (both hs h1 h2 (reads_of e) (touches_of events callees x.0) (expr_reads e hs) (x.1 (first_part _ (simples_of x.0) (simples_of y.0) i) h1))
+        (y.1 (then_part _ (simples_of x.0) (simples_of y.0) i) h2))
     stat_steps (stat.While line e x) = stat_form (stat.While line e x.0) (λ i hs.
         both hs (expr_holds p e hs) _ (reads_of e) (touches_of events callees x.0) (expr_reads e hs) (x.1 i _))
     stat_steps (stat.Do line x e) = stat_form (stat.Do line x.0 e) (λ i hs.
@@ -297,12 +286,12 @@ module _ (p : ℕ) (K : List Held → Type 0) where
         let h3 = after_holds p after h2 in
         let ts = simples_touch events callees begin in
         let us = after_touches events callees after in
-        let head = of_first _ (begin ++ list_of after) (simples_of x.0) i in
+        let head = first_part _ (begin ++ list_of after) (simples_of x.0) i in
         both hs h3 _ (ts ++ us ++ option_reads e) (touches_of events callees x.0)
         (subst (λ vs. Step hs h3 vs) (sym (append_assoc ts us (option_reads e)))
-        (both hs h1 h3 ts (us ++ option_reads e) (lined_step begin (of_first _ begin (list_of after) head) hs)
-        (turned h1 h2 h3 (option_reads e) us (option_step e h1) (after_step after (of_then _ begin (list_of after) head) h2))))
-        (x.1 (of_then _ (begin ++ list_of after) (simples_of x.0) i) h3))
+        (both hs h1 h3 ts (us ++ option_reads e) (lined_step begin (first_part _ begin (list_of after) head) hs)
+        (turned h1 h2 h3 (option_reads e) us (option_step e h1) (after_step after (then_part _ begin (list_of after) head) h2))))
+        (x.1 (then_part _ (begin ++ list_of after) (simples_of x.0) i) h3))
     stat_steps (stat.Break line) = stat_form (stat.Break line) (λ i hs. nothing hs)
     stat_steps (stat.Continue line) = stat_form (stat.Continue line) (λ i hs. nothing hs)
     stat_steps (stat.Return line e) = stat_form (stat.Return line e) (λ i hs. option_step e hs)
@@ -316,5 +305,5 @@ module _ (p : ℕ) (K : List Held → Type 0) where
     body_step [] i hs = nothing hs
     body_step (x ∷ xs) i hs =
         both hs (stat_holds p x hs) _ (touches_of events callees x) (body_touches events callees xs)
-        (stat_touches x (of_first _ (simples_of x) (simples_in xs) i) hs)
-        (body_step xs (of_then _ (simples_of x) (simples_in xs) i) (stat_holds p x hs))
+        (stat_touches x (first_part _ (simples_of x) (simples_in xs) i) hs)
+        (body_step xs (then_part _ (simples_of x) (simples_in xs) i) (stat_holds p x hs))

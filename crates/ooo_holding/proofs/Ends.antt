@@ -4,6 +4,8 @@ use Rattle.std.specs.Prelude.{slice_get, ⊤}
 use Rattle.std.specs.List.{AllByRecursion}
 use Rattle.std.proofs.lemmas.List.Elements.{All-from_recursion, recursion_from_All, All-contains}
 use Rattle.std.proofs.lemmas.Option.{slice_get_within}
+use Rattle.ooo_lemmas.proofs.Placed.{inside}
+use Rattle.ooo_lemmas.proofs.Each.{first_part, then_part}
 use Rattle.ooo_code.specs.Touches.{Touch, WritesSignal, HoldsReading, HoldsWriting}
 use Rattle.ooo_bound.specs.declared.model.Bound.{Bound}
 use Rattle.ooo_bound.specs.declared.model.BoundFunction.{BoundFunction}
@@ -33,7 +35,7 @@ use Rattle.ooo_activation.specs.Sound.{Uses}
 use Rattle.ooo_activation.specs.Touches.{Called, Callees, body_touches, called_by, callees_within, process_touches}
 use Rattle.ooo_holding.specs.Ends.{IsMeant, CallsMeant, IsClosed, AreClosed, EndsAreOfOne}
 use Rattle.ooo_holding.proofs.Grown.{Among, Covered, Grows, HoldsReader, HoldsWriter, stays, grows_on}
-use Rattle.ooo_holding.proofs.Bodies.{body_step, of_first, of_then}
+use Rattle.ooo_holding.proofs.Bodies.{body_step}
 
 -- ---- lists
 
@@ -49,7 +51,7 @@ split_calls : (I : ℕ → Type 0) (xs : List LinedSimple) → AllByRecursion I 
     AllByRecursion (λ x. AllByRecursion I (simple_calls x.simple)) xs
 split_calls I [] h = tt
 split_calls I (x ∷ xs) h =
-    (of_first I (simple_calls x.simple) (calls_of xs) h, split_calls I xs (of_then I (simple_calls x.simple) (calls_of xs) h))
+    (first_part I (simple_calls x.simple) (calls_of xs) h, split_calls I xs (then_part I (simple_calls x.simple) (calls_of xs) h))
 
 -- a body more is collected
 body_grows : (p : ℕ) (xs : List BoundStat) (hs : List Held) → Grows hs (body_holds p xs hs)
@@ -235,11 +237,6 @@ module _ (ps : List WalkedProcess) (cs : List WalkedChannel) (hs : List Held) (n
       one_holds what.TwoReaders ps r.0 h.readers p q (none_other (refusal_by what.TwoWriters ps r.0 h.writers) _ r.1) a.among
       (subst (λ (g : Held). Among q g.readers) (sym (same_held h d.held a.is d.is)) d.among)
 
-found_in : {A : Type 0} (xs : List A) (i : ℕ) → i < length xs → (x : A) × (slice_get xs i ≡ Some x)
-found_in [] i within = absurd (omega (arith, within))
-found_in (x ∷ xs) zero within = (x, refl)
-found_in (x ∷ xs) (suc i) within = found_in xs i (omega (arith, within))
-
 replicated : (n : ℕ) (h : Held) → length (replicate n h) ≡ n
 replicated zero h = refl
 replicated (suc n) h = ap suc (replicated n h)
@@ -254,7 +251,7 @@ module _ (f : Filed) (w : Walk) (n : Numbered) (b : Bound) (lengths : length b.p
 
   touched_covered : (p : ℕ) (t : Touch) → Uses b p t → Covered p (held_in f w n b) t
   touched_covered p t u =
-      let x = found_in w.processes p (subst (λ m. p < m) lengths (slice_get_within b.processes p u.process u.is)) in
+      let x = inside w.processes p (subst (λ m. p < m) lengths (slice_get_within b.processes p u.process u.is)) in
       All-contains (Covered p (held_in f w n b)) (process_touches b u.process) t
       (All-from_recursion (Covered p (held_in f w n b)) _
       (process_covered f n.instances b w.processes (replicate (length w.channels) not_held) p x.0 u.process x.1 u.is

@@ -2,6 +2,7 @@
 use Rattle.std.proofs.Common.{◌≡◌, ℕ, zero, suc, ◌<◌, List, [], ◌∷◌, true, false, Some, pos, refl, sym, subst, ◌∙◌, arith, rules}
 use Rattle.std.specs.Prelude.{slice_get, All, AllPairs, Contains, IsSome, IsSomeAnd, IsTrue}
 use Rattle.std.proofs.lemmas.List.Elements.{All-nil}
+use Rattle.ooo_lemmas.proofs.Each.{all_one}
 use Rattle.ooo_value.specs.Values.{IsOfKind, is_in_range}
 use Rattle.ooo_value.specs.declared.kinds.Kind.TheVariants as value_kind
 use Rattle.ooo_value.specs.declared.values.Value.TheVariants as value
@@ -15,10 +16,6 @@ use Rattle.ooo_interp.specs.declared.job.Job.{Job}
 use Rattle.ooo_interp.specs.Carrying.{IsAscending, listed}
 use Rattle.ooo_interp.specs.Jobs.{Fits, FitsCarried, FitsFrame, FitsProcess, FitsSeen, Touched, number_seen}
 use Rattle.ooo_interp.specs.SmallJob.{IsSmall, small_design, small_nodes, small_process, small_variable}
-
-all_one : {A : Type 0} (P : A → Type 0) (x : A) → P x → All P (x ∷ [])
-all_one P x h zero d lt = h
-all_one P x h (suc k) d lt = absurd (omega arith)
 
 first_alone : {A : Type 0} (x y : A) (n : ℕ) → slice_get (x ∷ []) n ≡ Some y → n ≡ 0
 first_alone x y zero h = refl

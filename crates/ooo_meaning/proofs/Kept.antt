@@ -2,18 +2,12 @@
 use Rattle.std.proofs.Common.{◌≡◌, ◌≢◌, ℕ, zero, suc, List, [], ◌∷◌, Option, Some, None, Bool, true, false, ◌&&◌, if◌then◌else◌, refl, sym, ap, ◌∙◌, subst, ⊎_elim}
 use Rattle.std.specs.Prelude.{slice_get, slice_set, is_none}
 use Rattle.std.proofs.lemmas.Bool.{cases_eq}
+use Rattle.ooo_lemmas.proofs.Placed.{get_other}
 use Rattle.ooo_code.specs.declared.activation.Effect.{Effect}
 use Rattle.ooo_code.specs.declared.activation.Effect.TheVariants as effect
 use Rattle.ooo_code.specs.Outcomes.{Deed, Activate}
 use Rattle.ooo_meaning.specs.World.{World, Wait, wait_at, apply, apply_all, after_deed, runs_now}
 use Rattle.ooo_meaning.specs.Sequence.{State, turn_at, turn, evaluate}
-
-get_other : {K : Type 0} (xs : List K) (p q : ℕ) (x : K) → p ≢ q → slice_get (slice_set xs q x) p ≡ slice_get xs p
-get_other [] p q x ne = refl
-get_other (y ∷ ys) zero zero x ne = absurd (ne refl)
-get_other (y ∷ ys) zero (suc q) x ne = refl
-get_other (y ∷ ys) (suc p) zero x ne = refl
-get_other (y ∷ ys) (suc p) (suc q) x ne = get_other ys p q x (λ e. ne (ap suc e))
 
 wait_other : (xs : List Wait) (p q : ℕ) (x : Wait) → p ≢ q → wait_at (slice_set xs q x) p ≡ wait_at xs p
 wait_other [] p q x ne = refl

@@ -3,6 +3,7 @@ use Rattle.std.proofs.Common.{◌≡◌, refl, ◌∙◌, ap, sym, subst, ℕ, L
 use Rattle.std.specs.Prelude.{Contains, ◌&&◌, not, ◌==◌, is_some}
 use Rattle.std.specs.List.{AllByRecursion}
 use Rattle.std.proofs.lemmas.List.Elements.{All-from_recursion}
+use Rattle.ooo_lemmas.proofs.Each.{of_both, first_part, then_part}
 use Rattle.ooo_lexer.specs.declared.position.Position.{Position}
 use Rattle.ooo_value.specs.declared.kinds.Kind.{Kind}
 use Rattle.ooo_syntax.specs.declared.expr.Expr.{Expr, Expr-F, map-Expr, roll-Expr, out-Expr, fold-roll-Expr, ind-Expr}
@@ -35,18 +36,6 @@ use Rattle.ooo_checked.specs.Stats.{Reading, target_of, value_of, is_compound, o
 use Rattle.ooo_constants.specs.Bodies.{all_of, right_calls, initial_calls, declarator_calls, simple_calls, step_calls, start_calls, stat_calls, stat_calls_step, body_calls, right_step as calls_step}
 use Rattle.ooo_fitting.specs.Naming.{Leave, MayBeNoted, MayAllBeNoted}
 use Rattle.ooo_noted.specs.Calls.{CallsAreNoted}
-
-of_both : {A : Type 0} (P : A → Type 0) (xs ys : List A) → AllByRecursion P xs → AllByRecursion P ys → AllByRecursion P (xs ++ ys)
-of_both P [] ys h g = g
-of_both P (x ∷ xs) ys h g = (h.0, of_both P xs ys h.1 g)
-
-first_part : {A : Type 0} (P : A → Type 0) (xs ys : List A) → AllByRecursion P (xs ++ ys) → AllByRecursion P xs
-first_part P [] ys h = tt
-first_part P (x ∷ xs) ys h = (h.0, first_part P xs ys h.1)
-
-then_part : {A : Type 0} (P : A → Type 0) (xs ys : List A) → AllByRecursion P (xs ++ ys) → AllByRecursion P ys
-then_part P [] ys h = h
-then_part P (x ∷ xs) ys h = then_part P xs ys h.1
 
 module _ (l : Leave) where
   -- where these may be noted, these functions may be called

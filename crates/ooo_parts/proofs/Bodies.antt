@@ -8,6 +8,8 @@ use Rattle.ooo_checked.specs.declared.module.CheckedSetup.TheVariants as setup
 use Rattle.ooo_checked.specs.declared.stat.CheckedEvent.{CheckedEvent}
 use Rattle.std.proofs.lemmas.List.Elements.{All-contains, All-contains_itself, All-from_recursion, recursion_from_All}
 use Rattle.std.proofs.lemmas.Option.{slice_get_within}
+use Rattle.ooo_lemmas.proofs.Contained.{in_mapped}
+use Rattle.ooo_lemmas.proofs.Each.{of_both}
 use Rattle.ooo_value.specs.declared.kinds.Kind.{Kind}
 use Rattle.ooo_bound.specs.declared.model.Bound.{Bound}
 use Rattle.ooo_bound.specs.declared.model.BoundFunction.{BoundFunction}
@@ -43,7 +45,7 @@ use Rattle.ooo_soundness.specs.Ports.{PortsFit}
 use Rattle.ooo_parts.specs.Bodies.{FitsInstance, FitsNumbered, is_thread, leave_of, numbering_at}
 use Rattle.ooo_parts.specs.Texts.{AllStand, AreEvents, FitsUnit, IsDeclared, IsText, no_calls}
 use Rattle.ooo_parts.specs.Whole.{PortsEnd}
-use Rattle.ooo_parts.proofs.Lists.{dropped, map_contains, of_both}
+use Rattle.ooo_parts.proofs.Lists.{dropped}
 use Rattle.ooo_parts.proofs.Calls.{registered_calls, some_is}
 use Rattle.ooo_parts.proofs.Functions.{function_made, named, params_are}
 use Rattle.ooo_parts.proofs.Modules.{function_declared}
@@ -126,7 +128,7 @@ module _ (numbers : FunctionsAreNumbered) (closes : ReachedAreClosed) (leasts : 
       record {
         takes = subst (λ k. IsSomeAnd (slice_get b.functions k) (λ function. length function.params ≡ params)) number
             (subst (λ o. IsSomeAnd o (λ function. length function.params ≡ params)) (sym found) all);
-        within = map_contains (λ x. function_meant (slice_get members x)) (body_calls body) d.number at;
+        within = in_mapped (λ x. function_meant (slice_get members x)) (body_calls body) d.number at;
       }
 
   body_agrees : (waits : Bool) (body : List CheckedStat) → IsText here waits body → CallsReached body → (s : Scope) → AllStand here s →

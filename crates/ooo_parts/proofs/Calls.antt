@@ -1,8 +1,9 @@
 -- The calls of a bound model lie among the functions that its processes reach, and lead to functions of less.
 use Rattle.std.proofs.Common.{◌≡◌, ◌∙◌, refl, sym, ap, subst, arith, ℕ, zero, suc, ◌<◌, List, [], ◌∷◌, length, Bool, true, false, Option, Some, None}
 use Rattle.std.specs.Prelude.{All, Contains, IsSome, slice_get}
-use Rattle.std.proofs.lemmas.List.Elements.{All-nil, All-contains, All-contains_itself, All-weaker}
+use Rattle.std.proofs.lemmas.List.Elements.{All-nil, All-contains, All-contains_itself, All-weaker, Contains-append_left, Contains-append_right}
 use Rattle.std.proofs.lemmas.Option.{slice_get_within}
+use Rattle.ooo_lemmas.proofs.Contained.{mapped_from}
 use Rattle.ooo_time.specs.declared.time.Time.{Time}
 use Rattle.ooo_value.specs.declared.bound.ProcessKind.{ProcessKind}
 use Rattle.ooo_bound.specs.declared.model.Bound.{Bound}
@@ -39,7 +40,7 @@ use Rattle.ooo_soundness.specs.Numbering.{FunctionsAreNumbered}
 use Rattle.ooo_soundness.specs.Parts.{ArePassed}
 use Rattle.ooo_parts.specs.Bodies.{IsRegistration, IsRegistered, AreRegistered, FitsNumbered, FitsModule, FitInstances, HasOrder, is_thread, leave_of}
 use Rattle.ooo_parts.specs.Calls.{CallsAreClosed, CallsFall, Falls}
-use Rattle.ooo_parts.proofs.Lists.{contains_left, contains_right, contains_mapped, has_at, has_place}
+use Rattle.ooo_parts.proofs.Lists.{has_at, has_place}
 use Rattle.ooo_parts.proofs.Functions.{listed, function_found, function_made, functions_length, view_is, IsNamed, named, body_is}
 use Rattle.ooo_parts.proofs.Clocks.{clock_calls}
 
@@ -49,7 +50,7 @@ use Rattle.ooo_parts.proofs.Clocks.{clock_calls}
 pub registered_calls : (v : Viewed) (xs : List CheckedSetup) (place : ℕ) (k : ProcessKind) (x : ℕ) → IsRegistration k x (slice_get xs place) →
     (y : ℕ) → Contains (calls_in (function_at v x)) y → Contains (setups_calls v xs) y
 registered_calls v [] place k x is y h = absurd is
-registered_calls v (s ∷ xs) zero k x is y h = contains_left (setup_calls v s) (setups_calls v xs) y (at s is)
+registered_calls v (s ∷ xs) zero k x is y h = Contains-append_left (setup_calls v s) (setups_calls v xs) y (at s is)
   where
     at : (s : CheckedSetup) → IsRegistration k x (Some s) → Contains (setup_calls v s) y
     at (setup.Thread p r) is = subst (λ n. Contains (calls_in (function_at v n)) y) (sym is.1) h
@@ -59,7 +60,7 @@ registered_calls v (s ∷ xs) zero k x is y h = contains_left (setup_calls v s) 
     at (setup.Bind b) is = absurd is
     at (setup.Set r e) is = absurd is
 registered_calls v (s ∷ xs) (suc place) k x is y h =
-    contains_right (setup_calls v s) (setups_calls v xs) y (registered_calls v xs place k x is y h)
+    Contains-append_right (setup_calls v s) (setups_calls v xs) y (registered_calls v xs place k x is y h)
 
 -- ---- calls of a body
 
@@ -72,7 +73,7 @@ by_name : (b : Bound) (n : Numbering) (v : Viewed) (waits : Bool) (body : List C
     (g : ℕ) → Contains (calls_of (simples_in (stats_of n body))) g →
     (x : ℕ) × Contains (body_calls body) x × (function_meant (slice_get n.members x) ≡ g)
 by_name b n v waits body h g at =
-    contains_mapped (λ x. function_meant (slice_get n.members x)) (body_calls body) g
+    mapped_from (λ x. function_meant (slice_get n.members x)) (body_calls body) g
     (All-contains (Contains (leave_of n.members waits body).functions) (calls_of (simples_in (stats_of n body))) g h.fits.calls at)
 
 called_function : (b : Bound) (n : Numbering) (v : Viewed) (waits : Bool) (body : List CheckedStat) → FitsNumbered b n v waits body →

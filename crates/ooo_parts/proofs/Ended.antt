@@ -4,6 +4,9 @@ use Rattle.std.specs.Prelude.{slice_get, not, is_some, nat_lt, ◌==◌, ◌||�
 use Rattle.std.proofs.lemmas.Bool.{eq-eqb, eqb-true, or_cases, or_left, or_right, lt-ltb, le-ltb, ltb-true}
 use Rattle.std.proofs.lemmas.Bool.Decides.{eqb_tells}
 use Rattle.std.proofs.lemmas.Option.{slice_get_within}
+use Rattle.ooo_lemmas.proofs.Placed.{replicated, set_cases}
+use Rattle.ooo_lemmas.specs.Counting.{one_if}
+use Rattle.ooo_lemmas.proofs.Counting.{one_at_most, one_more, some_if, none_if}
 use Rattle.ooo_constants.specs.declared.meaning.Meaning.{Meaning}
 use Rattle.ooo_constants.specs.declared.meaning.Meaning.TheVariants as meaning
 use Rattle.ooo_checked.specs.declared.denotation.Thing.{Thing}
@@ -97,48 +100,23 @@ rises is p q h =
 
 -- ---- counting
 
-one_if : Bool → ℕ
-one_if true = 1
-one_if false = 0
-
 -- how many numbers below one have more
 count : (ℕ → ℕ) → ℕ → ℕ → ℕ
 count m r zero = 0
 count m r (suc n) = one_if (nat_lt r (m n)) + count m r n
-
-one_at_most : (x : Bool) → one_if x ≤ 1
-unfolding one_if
-one_at_most true = omega arith
-one_at_most false = omega arith
 
 count_at_most : (m : ℕ → ℕ) (r n : ℕ) → count m r n ≤ n
 unfolding count
 count_at_most m r zero = omega arith
 count_at_most m r (suc n) = let h = count_at_most m r n in let g = one_at_most (nat_lt r (m n)) in omega (arith, h, g)
 
-one_less : (x y : Bool) → (x ≡ true → y ≡ true) → one_if x ≤ one_if y
-unfolding one_if
-one_less true true h = omega arith
-one_less true false h = absurd (let e = h refl in cc)
-one_less false y h = omega arith
-
 count_less : (m : ℕ → ℕ) (r s n : ℕ) → r ≤ s → count m s n ≤ count m r n
 unfolding count
 count_less m r s zero h = omega arith
 count_less m r s (suc n) h =
     let g = count_less m r s n h in
-    let o = one_less (nat_lt s (m n)) (nat_lt r (m n)) (λ e. let l = ltb-true s (m n) e in lt-ltb r (m n) (omega (arith, l, h))) in
+    let o = one_more (nat_lt s (m n)) (nat_lt r (m n)) (λ e. let l = ltb-true s (m n) e in lt-ltb r (m n) (omega (arith, l, h))) in
     omega (arith, g, o)
-
-is_one : (x : Bool) → x ≡ true → one_if x ≡ 1
-unfolding one_if
-is_one true h = refl
-is_one false h = absurd cc
-
-is_none : (x : Bool) → x ≡ false → one_if x ≡ 0
-unfolding one_if
-is_none true h = absurd cc
-is_none false h = refl
 
 -- fewer have more than one that has more
 count_falls : (m : ℕ → ℕ) (r q n : ℕ) → q < n → r < m q → count m (m q) n < count m r n
@@ -148,12 +126,12 @@ count_falls m r q (suc n) within h = elim (eqb_tells q n) [
   | inl w ↦
       let same = w.1 in
       let high : r < m n = subst (λ k. r < m k) same h in
-      let some = is_one (nat_lt r (m n)) (lt-ltb r (m n) high) in
+      let some = some_if (nat_lt r (m n)) (lt-ltb r (m n) high) in
       let e : m q ≡ m n = ap m same in
-      let none = is_none (nat_lt (m q) (m n)) (le-ltb (m q) (m n) (omega (arith, e))) in
+      let none = none_if (nat_lt (m q) (m n)) (le-ltb (m q) (m n) (omega (arith, e))) in
       let g = count_less m r (m q) n (omega (arith, h)) in omega (arith, some, none, g)
   | inr w ↦
-      let o = one_less (nat_lt (m q) (m n)) (nat_lt r (m n)) (λ e. let l = ltb-true (m q) (m n) e in lt-ltb r (m n) (omega (arith, l, h))) in
+      let o = one_more (nat_lt (m q) (m n)) (nat_lt r (m n)) (λ e. let l = ltb-true (m q) (m n) e in lt-ltb r (m n) (omega (arith, l, h))) in
       let g : count m (m q) n < count m r n = count_falls m r q n (omega (arith, within, w.1)) h in omega (arith, o, g)
 ]
 
@@ -171,19 +149,6 @@ record IsBy (w : Walk) (p : ℕ) (m : Meaning) : Type 0 where
 
 abbrev AreBy : Walk → List Meaning → Type 0
 AreBy w ends = (p : ℕ) (m : Meaning) → slice_get ends p ≡ Some m → (m ≡ meaning.Nothing) ⊎ IsBy w p m
-
-replicated : (n : ℕ) (x y : Meaning) (p : ℕ) → slice_get (replicate n x) p ≡ Some y → y ≡ x
-replicated zero x y p h = absurd cc
-replicated (suc n) x y zero h = cc
-replicated (suc n) x y (suc p) h = replicated n x y p h
-
-set_cases : (xs : List Meaning) (i : ℕ) (a : Meaning) (p : ℕ) (m : Meaning) → slice_get (slice_set xs i a) p ≡ Some m →
-    (slice_get xs p ≡ Some m) ⊎ ((i ≡ p) × (a ≡ m))
-set_cases [] i a p m h = inl h
-set_cases (x ∷ xs) zero a zero m h = inr (refl, cc)
-set_cases (x ∷ xs) zero a (suc p) m h = inl h
-set_cases (x ∷ xs) (suc i) a zero m h = inl h
-set_cases (x ∷ xs) (suc i) a (suc p) m h = elim (set_cases xs i a p m h) [ inl old ↦ inl old | inr new ↦ inr (ap suc new.0, new.1) ]
 
 -- what is said of the ends so far
 record Linked (w : Walk) (l : Links) : Type 0 where

@@ -1,6 +1,7 @@
 -- The functions of a module among the things that it declares.
-use Rattle.std.proofs.Common.{◌≡◌, ◌∙◌, refl, sym, ap, subst, arith, ℕ, zero, suc, ◌+◌, ◌<◌, List, [], ◌∷◌, ◌++◌, map, length, replicate, Option, Some, None, ◌⊎◌, inl, inr}
+use Rattle.std.proofs.Common.{◌≡◌, ◌∙◌, refl, sym, ap, subst, arith, ℕ, zero, suc, ◌+◌, ◌<◌, List, [], ◌∷◌, ◌++◌, map, length, Option, Some, None, inl, inr}
 use Rattle.std.specs.Prelude.{slice_get}
+use Rattle.ooo_lemmas.proofs.Placed.{behind_at, replicated_or}
 use Rattle.ooo_checked.specs.declared.denotation.Thing.{Thing}
 use Rattle.ooo_checked.specs.declared.denotation.Thing.TheVariants as thing
 use Rattle.ooo_checked.specs.declared.module.CheckedFunction.{CheckedFunction}
@@ -13,7 +14,6 @@ use Rattle.ooo_walk.specs.declared.plan.Plan.{Plan}
 use Rattle.ooo_walk.specs.Plans.{as_function, function_at, member_placed, members_in, names_in, places_from, plan_of, plans_from, view_at, view_planned}
 use Rattle.ooo_walk.specs.Texts.{file_of}
 use Rattle.ooo_walked.specs.Names.{things_in, things_of}
-use Rattle.ooo_parts.proofs.Lists.{behind_at}
 
 -- ---- places of names
 
@@ -34,16 +34,6 @@ as_many (member.Events names) = mapped_length _ names
 as_many (member.Children c) = mapped_length _ c.parts
 as_many (member.Function f) = refl
 as_many (member.Constructor c) = refl
-
--- a place of two lists
-replicated_or : (n x : ℕ) (ys : List ℕ) (k y : ℕ) → slice_get (replicate n x ++ ys) k ≡ Some y →
-    ((k < n) × (x ≡ y)) ⊎ ((q : ℕ) × (n + q ≡ k) × (slice_get ys q ≡ Some y))
-replicated_or zero x ys k y h = inr (k, omega arith, h)
-replicated_or (suc n) x ys zero y h = inl (omega arith, cc)
-replicated_or (suc n) x ys (suc k) y h = elim (replicated_or n x ys k y h) [
-  | inl a ↦ let l = a.0 in inl (omega (arith, l), a.1)
-  | inr c ↦ let e = c.1 in inr (c.0, omega (arith, e), c.2)
-]
 
 as_function_is : (m : CheckedMember) (f : CheckedFunction) → as_function (Some m) ≡ Some f → m ≡ member.Function f
 as_function_is member.Public f h = absurd cc

@@ -1,7 +1,8 @@
 -- In a walk each binding leads from a port of an instance to one of an instance that is over later.
-use Rattle.std.proofs.Common.{◌≡◌, ◌∙◌, refl, sym, ap, subst, arith, ℕ, zero, suc, ◌+◌, ◌<◌, List, [], ◌∷◌, ◌++◌, length, length-append, Option, Some, None, ◌⊎◌, inl, inr}
+use Rattle.std.proofs.Common.{◌≡◌, ◌∙◌, refl, sym, ap, subst, arith, ℕ, ◌+◌, ◌<◌, List, [], ◌∷◌, ◌++◌, length, length-append, Option, Some, None, ◌⊎◌, inl, inr}
 use Rattle.std.specs.Prelude.{slice_get}
 use Rattle.std.proofs.lemmas.Option.{slice_get_within}
+use Rattle.ooo_lemmas.proofs.Placed.{kept_at, at_push}
 use Rattle.ooo_checked.specs.declared.denotation.Denotation.{Denotation}
 use Rattle.ooo_checked.specs.declared.denotation.Thing.{Thing}
 use Rattle.ooo_checked.specs.declared.denotation.Thing.TheVariants as thing
@@ -12,7 +13,6 @@ use Rattle.ooo_walk.specs.declared.state.WalkedBinding.{WalkedBinding}
 use Rattle.ooo_walk.specs.declared.state.WalkedInstance.{WalkedInstance}
 use Rattle.ooo_walk.specs.Setups.{end_of, end_meant, port_in}
 use Rattle.ooo_parts.proofs.Kept.{IsNoPort, IsQuiet, IsKept}
-use Rattle.ooo_parts.proofs.Lists.{kept_at}
 
 -- ---- ports in lists
 
@@ -39,20 +39,14 @@ pub record IsBefore (is : List WalkedInstance) (p q : ℕ) : Type 0 where
 abbrev pub Leads : List WalkedInstance → List WalkedBinding → Type 0
 Leads is bs = (k : ℕ) (b : WalkedBinding) → slice_get bs k ≡ Some b → (q : ℕ) → b.to ≡ meaning.Port q → IsBefore is b.port q
 
-one_at : {A : Type 0} (xs : List A) (x : A) (k : ℕ) (y : A) → slice_get (xs ++ x ∷ []) k ≡ Some y → (slice_get xs k ≡ Some y) ⊎ ((length xs ≡ k) × (x ≡ y))
-one_at [] x zero y h = inr (refl, cc)
-one_at [] x (suc k) y h = absurd cc
-one_at (z ∷ xs) x zero y h = inl h
-one_at (z ∷ xs) x (suc k) y h = elim (one_at xs x k y h) [ inl old ↦ inl old | inr new ↦ inr (ap suc new.0, new.1) ]
-
 means_one : (ms : List Meaning) (m : Meaning) (q : ℕ) → Means (ms ++ m ∷ []) q → Means ms q ⊎ (m ≡ meaning.Port q)
-means_one ms m q h = elim (one_at ms m h.0 (meaning.Port q) h.1) [ inl old ↦ inl (h.0, old) | inr new ↦ inr new.1 ]
+means_one ms m q h = elim (at_push ms m (meaning.Port q) h.0 h.1) [ inl old ↦ inl (h.0, old) | inr new ↦ inr new.1 ]
 
 no_port : (m : Meaning) (q : ℕ) → IsNoPort m → m ≡ meaning.Port q → ⊥
 no_port m q none is = subst IsNoPort is none
 
 in_one : (is : List WalkedInstance) (i : WalkedInstance) (q : ℕ) → IsIn (is ++ i ∷ []) q → IsIn is q ⊎ Means i.members q
-in_one is i q h = elim (one_at is i h.place h.instance h.there) [
+in_one is i q h = elim (at_push is i h.instance h.place h.there) [
   | inl old ↦ inl (record { place = h.place; instance = h.instance; there = old; has = h.has })
   | inr new ↦ inr (subst (λ (j : WalkedInstance). Means j.members q) (sym new.1) h.has)
 ]
@@ -63,7 +57,7 @@ before_one is i p q h = record {
   instance = h.instance;
   there = kept_at is (i ∷ []) h.place h.instance h.there;
   has = h.has;
-  later = λ k j at has. elim (one_at is i k j at) [
+  later = λ k j at has. elim (at_push is i j k at) [
     | inl old ↦ h.later k j old has
     | inr new ↦ let within = slice_get_within is h.place h.instance h.there in let e = new.0 in omega (arith, within, e)
   ];
@@ -128,7 +122,7 @@ module _ (S : ℕ → Type 0) (n : ℕ) (is : List WalkedInstance) (bs : List Wa
     low_others = h.low_others;
     low_over = h.low_over;
     low_here = h.low_here;
-    leads = λ k c at q to. elim (one_at bs b k c at) [
+    leads = λ k c at q to. elim (at_push bs b c k at) [
       | inl old ↦ h.leads k c old q to
       | inr new ↦ subst (λ (d : WalkedBinding). IsBefore is d.port q) new.1 (record {
         place = over.place;

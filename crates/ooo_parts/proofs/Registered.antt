@@ -1,6 +1,7 @@
 -- The processes of a walk are registered by the constructors of their instances' modules.
 use Rattle.std.proofs.Common.{◌≡◌, ◌∙◌, refl, sym, ap, subst, ◌⊎◌, arith, ℕ, zero, suc, ◌+◌, ◌/◌, ◌%◌, List, [], ◌∷◌, ◌++◌, length, true, false, Some, None, inl, inr}
 use Rattle.std.specs.Prelude.{◌==◌, ◌||◌, nat_lt, if◌then◌else◌, slice_get, Result, Ok, Err}
+use Rattle.ooo_lemmas.proofs.Placed.{kept_at, behind_at}
 use Rattle.ooo_time.specs.declared.time.Time.{Time}
 use Rattle.ooo_lexer.specs.declared.position.Position.{Position}
 use Rattle.ooo_value.specs.declared.bound.ChannelKind.TheVariants as channel
@@ -39,7 +40,6 @@ use Rattle.ooo_walk.specs.declared.state.WalkedProcess.{WalkedProcess}
 use Rattle.ooo_parts.specs.Bodies.{IsRegistered, IsRegistration}
 use Rattle.ooo_parts.specs.Whole.{ProcessesAreRegistered}
 use Rattle.ooo_parts.proofs.Kept.{At, Keeps, at_kept, at_quiet, refused_keeps, unless_keeps, in_order_keeps, answer_keeps, object_keeps, set_keeps, bind_keeps, times_keep, args_keep, room_keeps, start_form_keeps, meant_keeps, fixed_keeps, field_keeps, statics_keep, constant_keeps, word_keeps, part_keeps, port_keeps, event_keeps, item_keeps}
-use Rattle.ooo_parts.proofs.Lists.{behind_at, kept_at}
 
 split_one : (xs : List WalkedProcess) (x : WalkedProcess) (k : ℕ) (y : WalkedProcess) → slice_get (xs ++ x ∷ []) k ≡ Some y →
     (slice_get xs k ≡ Some y) ⊎ (x ≡ y)

@@ -4,6 +4,7 @@ use Rattle.std.specs.Prelude.{All, IsSome, IfSome, IsSomeAnd, option_map, slice_
 use Rattle.std.specs.List.{AllByRecursion}
 use Rattle.std.proofs.lemmas.List.Elements.{All-from_recursion, recursion_from_All, All-contains}
 use Rattle.std.proofs.lemmas.Option.{slice_get_within, get_or_from_slice_get}
+use Rattle.ooo_lemmas.proofs.Each.{of_both, first_part, then_part}
 use Rattle.ooo_value.specs.declared.bound.BoundChannel.{BoundChannel}
 use Rattle.ooo_value.specs.declared.bound.BoundEvent.{BoundEvent}
 use Rattle.ooo_value.specs.declared.kinds.Kind.{Kind}
@@ -31,17 +32,8 @@ use Rattle.ooo_activation.specs.Sound.{FitsExpr, FitsTime, FitsTarget, FitsCall,
 use Rattle.ooo_activation.specs.Touches.{Touched, Called, Callees, reads_step, reads_of, option_reads, arguments_read, time_reads, wait_reads, target_touches, target_reads, take_touches, put_touches, call_touches, right_touches, item_reads, items_read, simple_touches, simples_touch, after_touches, all_touch, touches_step, touches_of, body_touches, called_by, callees_within, process_touches}
 use Rattle.ooo_holding.specs.Ends.{EndsOfOne}
 use Rattle.ooo_parts.specs.Ends.{EndsAreThere}
-use Rattle.ooo_parts.proofs.Lists.{of_both}
 
 -- ---- lists and options
-
-of_first : {A : Type 0} (P : A → Type 0) (xs ys : List A) → AllByRecursion P (xs ++ ys) → AllByRecursion P xs
-of_first P [] ys h = tt
-of_first P (x ∷ xs) ys h = (h.0, of_first P xs ys h.1)
-
-of_then : {A : Type 0} (P : A → Type 0) (xs ys : List A) → AllByRecursion P (xs ++ ys) → AllByRecursion P ys
-of_then P [] ys h = h
-of_then P (x ∷ xs) ys h = of_then P xs ys h.1
 
 first_typed : (a c : Typed) → IsSome (if_typed a c) → IsSome a
 first_typed None c h = absurd cc
@@ -266,8 +258,8 @@ module _ (b : Bound) where
     parts_there (x ∷ xs) s v =
         let ys : List BoundStat = map (λ x. x.0) xs in
         both (touches_of events callees x.0) (all_touch (map (touches_of events callees) ys))
-        (x.1 (of_first _ (simples_of x.0) (joined (map simples_of ys)) s) (of_first _ (values_of x.0) (joined (map values_of ys)) v))
-        (parts_there xs (of_then _ (simples_of x.0) (joined (map simples_of ys)) s) (of_then _ (values_of x.0) (joined (map values_of ys)) v))
+        (x.1 (first_part _ (simples_of x.0) (joined (map simples_of ys)) s) (first_part _ (values_of x.0) (joined (map values_of ys)) v))
+        (parts_there xs (then_part _ (simples_of x.0) (joined (map simples_of ys)) s) (then_part _ (values_of x.0) (joined (map values_of ys)) v))
 
     stat_steps : (y : BoundStat-F Shown) → Claim (roll-BoundStat (map-BoundStat Shown BoundStat (λ x. x.0) y))
     stat_steps (stat.Block xs) = stat_form (stat.Block (map (λ x. x.0) xs)) (λ s v. parts_there xs s v)
@@ -275,26 +267,26 @@ module _ (b : Bound) where
     stat_steps (stat.If line e x None) = stat_form (stat.If line e x.0 None) (λ s v.
         both (reads_of e ++ touches_of events callees x.0) []
         (both (reads_of e) (touches_of events callees x.0) (expr_there e v.0)
-        (x.1 (of_first _ (simples_of x.0) [] s) (of_first _ (values_of x.0) [] v.1))) tt)
+        (x.1 (first_part _ (simples_of x.0) [] s) (first_part _ (values_of x.0) [] v.1))) tt)
     stat_steps (stat.If line e x (Some y)) = stat_form (stat.If line e x.0 (Some y.0)) (λ s v.
         both (reads_of e ++ touches_of events callees x.0) (touches_of events callees y.0)
         (both (reads_of e) (touches_of events callees x.0) (expr_there e v.0)
-        (x.1 (of_first _ (simples_of x.0) (simples_of y.0) s) (of_first _ (values_of x.0) (values_of y.0) v.1)))
-        (y.1 (of_then _ (simples_of x.0) (simples_of y.0) s) (of_then _ (values_of x.0) (values_of y.0) v.1)))
+        (x.1 (first_part _ (simples_of x.0) (simples_of y.0) s) (first_part _ (values_of x.0) (values_of y.0) v.1)))
+        (y.1 (then_part _ (simples_of x.0) (simples_of y.0) s) (then_part _ (values_of x.0) (values_of y.0) v.1)))
     stat_steps (stat.While line e x) = stat_form (stat.While line e x.0) (λ s v.
         both (reads_of e) (touches_of events callees x.0) (expr_there e v.0) (x.1 s v.1))
     stat_steps (stat.Do line x e) = stat_form (stat.Do line x.0 e) (λ s v.
-        both (touches_of events callees x.0) (reads_of e) (x.1 s (of_first _ (values_of x.0) (e ∷ []) v))
-        (expr_there e ((of_then _ (values_of x.0) (e ∷ []) v).0)))
+        both (touches_of events callees x.0) (reads_of e) (x.1 s (first_part _ (values_of x.0) (e ∷ []) v))
+        (expr_there e ((then_part _ (values_of x.0) (e ∷ []) v).0)))
     stat_steps (stat.For line begin e after x) = stat_form (stat.For line begin e after x.0) (λ s v.
         let ts = simples_touch events callees begin in
         let us = after_touches events callees after in
-        let head = of_first _ (begin ++ list_of after) (simples_of x.0) s in
+        let head = first_part _ (begin ++ list_of after) (simples_of x.0) s in
         both (ts ++ us ++ option_reads e) (touches_of events callees x.0)
         (both (ts ++ us) (option_reads e)
-        (both ts us (lined_there begin (of_first _ begin (list_of after) head)) (after_there after (of_then _ begin (list_of after) head)))
-        (option_there e (of_first _ (list_of e) (values_of x.0) v)))
-        (x.1 (of_then _ (begin ++ list_of after) (simples_of x.0) s) (of_then _ (list_of e) (values_of x.0) v)))
+        (both ts us (lined_there begin (first_part _ begin (list_of after) head)) (after_there after (then_part _ begin (list_of after) head)))
+        (option_there e (first_part _ (list_of e) (values_of x.0) v)))
+        (x.1 (then_part _ (begin ++ list_of after) (simples_of x.0) s) (then_part _ (list_of e) (values_of x.0) v)))
     stat_steps (stat.Break line) = stat_form (stat.Break line) (λ s v. tt)
     stat_steps (stat.Continue line) = stat_form (stat.Continue line) (λ s v. tt)
     stat_steps (stat.Return line e) = stat_form (stat.Return line e) (λ s v. option_there e v)
@@ -306,8 +298,8 @@ module _ (b : Bound) where
     all_there [] s v = tt
     all_there (x ∷ xs) s v =
         both (touches_of events callees x) (body_touches events callees xs)
-        (stat_there x (of_first _ (simples_of x) (simples_in xs) s) (of_first _ (values_of x) (values_in xs) v))
-        (all_there xs (of_then _ (simples_of x) (simples_in xs) s) (of_then _ (values_of x) (values_in xs) v))
+        (stat_there x (first_part _ (simples_of x) (simples_in xs) s) (first_part _ (values_of x) (values_in xs) v))
+        (all_there xs (then_part _ (simples_of x) (simples_in xs) s) (then_part _ (values_of x) (values_in xs) v))
 
     body_there : (xs : List BoundStat) → FitsBody b xs → AreThere (body_touches events callees xs)
     body_there xs h =

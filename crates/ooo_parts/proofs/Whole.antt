@@ -2,6 +2,7 @@
 use Rattle.std.proofs.Common.{◌≡◌, ◌∙◌, refl, sym, ap, subst, ℕ, zero, suc, ◌+◌, ◌<◌, List, [], ◌∷◌, drop, length, false, Option, Some, None}
 use Rattle.std.specs.Prelude.{All, Ok, slice_get}
 use Rattle.std.proofs.lemmas.List.Elements.{All-nil}
+use Rattle.ooo_lemmas.proofs.Placed.{all_from}
 use Rattle.ooo_value.specs.declared.bound.ProcessKind.{ProcessKind}
 use Rattle.ooo_value.specs.declared.bound.ProcessKind.TheVariants as process
 use Rattle.ooo_bound.specs.declared.model.Bound.{Bound}
@@ -39,7 +40,6 @@ use Rattle.ooo_parts.specs.Calls.{CallsAreClosed, CallsFall}
 use Rattle.ooo_parts.specs.Ends.{EndsAreThere}
 use Rattle.ooo_parts.specs.Whole.{AllPortsEnd, BodiesOfTextsFit, ProcessesAreRegistered, SoundByParts}
 use Rattle.ooo_parts.proofs.Bodies.{sensitive_fits}
-use Rattle.ooo_parts.proofs.Lists.{all_from}
 use Rattle.ooo_parts.proofs.Functions.{body_is, function_found, listed, view_is}
 
 process_made : (f : Filed) (m : Model) (is : List WalkedInstance) (ps : List WalkedProcess) (p : ℕ) (b : BoundProcess) →

@@ -4,7 +4,9 @@ use Rattle.std.specs.Prelude.{◌&&◌, ◌||◌, Contains, Some, slice_get}
 use Rattle.std.specs.List.{Any}
 use Rattle.std.proofs.lemmas.Bool.{eq-eqb, eqb-true, and_parts, and_from, or_cases, or_left, or_right}
 use Rattle.std.proofs.lemmas.List.Folds.{list_any_at, Any-from_list_any}
-use Rattle.std.proofs.lemmas.Option.{slice_get_within, get_or_from_slice_get, slice_get-get_or}
+use Rattle.ooo_lemmas.specs.Counting.{one_if}
+use Rattle.ooo_lemmas.proofs.Contained.{contains_place}
+use Rattle.ooo_lemmas.proofs.Counting.{one_at_most, one_more, strictly}
 use Rattle.ooo_calls.specs.declared.call.Call.{Call}
 use Rattle.ooo_calls.specs.Cycles.{reaches, is_on_cycle}
 use Rattle.ooo_ranks.specs.Ranks.{AcyclicFalls}
@@ -59,38 +61,17 @@ one_longer (suc k) cs a b r =
 
 -- ---- counting
 
-one_if : Bool → ℕ
-one_if true = 1
-one_if false = 0
-
 abbrev count : {A : Type 0} → (A → Bool) → List A → ℕ
 count p [] = 0
 count p (x ∷ xs) = one_if (p x) + count p xs
-
-one_at_most : (x : Bool) → one_if x ≤ 1
-unfolding one_if
-one_at_most true = omega arith
-one_at_most false = omega arith
 
 count_at_most : {A : Type 0} (p : A → Bool) (xs : List A) → count p xs ≤ length xs
 count_at_most p [] = omega arith
 count_at_most p (x ∷ xs) = let h = count_at_most p xs in let g = one_at_most (p x) in omega (arith, h, g)
 
-one_more : (x y : Bool) → (x ≡ true → y ≡ true) → one_if x ≤ one_if y
-unfolding one_if
-one_more true true h = omega arith
-one_more true false h = absurd (let e = h refl in cc)
-one_more false y h = omega arith
-
 count_more : {A : Type 0} (p q : A → Bool) → ((x : A) → p x ≡ true → q x ≡ true) → (xs : List A) → count p xs ≤ count q xs
 count_more p q h [] = omega arith
 count_more p q h (x ∷ xs) = let g = count_more p q h xs in let o = one_more (p x) (q x) (h x) in omega (arith, g, o)
-
-strictly : (x y : Bool) → x ≡ false → y ≡ true → one_if x < one_if y
-unfolding one_if
-strictly false true f t = omega arith
-strictly false false f t = absurd cc
-strictly true y f t = absurd cc
 
 count_strictly : {A : Type 0} (p q : A → Bool) → ((x : A) → p x ≡ true → q x ≡ true) → (xs : List A) (k : ℕ) (e : A) →
     slice_get xs k ≡ Some e → p e ≡ false → q e ≡ true → count p xs < count q xs
@@ -124,12 +105,6 @@ agree_or_more {A = A} p q h (x ∷ xs) = by (p x) (q x) refl refl (agree_or_more
         head zero e at t = let same : x ≡ e = cc in let no : false ≡ true = sym of ∙ ap q same ∙ t in absurd cc
         head (suc k) e at t = agree k e at t
 
-contains_at : (cs : List Call) (k : ℕ) (c : Call) → slice_get cs k ≡ Some c → Contains cs c
-contains_at cs k c is = (k, slice_get_within cs k c is, get_or_from_slice_get cs k c c is)
-
-at_contained : (cs : List Call) (c : Call) → Contains cs c → (k : ℕ) × (slice_get cs k ≡ Some c)
-at_contained cs c (k, within, is) = (k, slice_get-get_or cs k c within ∙ ap Some is)
-
 -- ---- enough calls
 
 module _ (cs : List Call) (b : ℕ) where
@@ -156,7 +131,7 @@ module _ (cs : List Call) (b : ℕ) where
   shorter : (k a : ℕ) → Enough k → reaches (suc (suc k)) cs a b ≡ true → reaches (suc k) cs a b ≡ true
   shorter k a enough r =
       let first = begins (suc k) cs a b r in
-      let at = at_contained cs first.call first.among in
+      let at = contains_place cs first.call first.among in
       let on = leads_way k first.call (enough at.0 first.call at.1 (way_leads (suc k) first.call first.on)) in
       subst (λ x. reaches (suc k) cs x b ≡ true) first.from (reaches_by cs first.call k b first.among on)
 
@@ -226,6 +201,6 @@ pub acyclic_falls : AcyclicFalls
 acyclic_falls cs none = record {
   measure = λ a. count (behind cs a) cs;
   falls = λ e among.
-      let at = at_contained cs e among in
+      let at = contains_place cs e among in
       count_strictly (behind cs e.to) (behind cs e.from) (behind_on cs e among) cs at.0 e at.1 (not_behind cs e (none e among)) (behind_itself cs e);
 }

@@ -1,9 +1,12 @@
 -- What is reached by calls is closed under calls.
 use Rattle.std.proofs.Common.{◌≡◌, ◌∙◌, refl, sym, ap, subst, arith, ℕ, zero, suc, ◌+◌, ◌<◌, ◌≤◌, List, [], ◌∷◌, ◌++◌, length, length-append, Bool, true, false, Option, Some, None, ◌⊎◌, inl, inr}
-use Rattle.std.specs.Prelude.{◌==◌, Contains, slice_get, if◌then◌else◌}
+use Rattle.std.specs.Prelude.{◌==◌, slice_get, if◌then◌else◌}
 use Rattle.std.proofs.lemmas.Bool.{or_cases, or_left, or_right, eq-eqb, eqb-true}
 use Rattle.std.proofs.lemmas.Bool.Decides.{eqb_tells}
-use Rattle.std.proofs.lemmas.Option.{slice_get_within, slice_get_past, slice_get_cases, slice_get-get_or, get_or_from_slice_get}
+use Rattle.std.proofs.lemmas.Option.{slice_get_within, slice_get_past, slice_get_cases}
+use Rattle.ooo_lemmas.specs.Counting.{count}
+use Rattle.ooo_lemmas.proofs.Contained.{contains_place, contains_at}
+use Rattle.ooo_lemmas.proofs.Counting.{count_at_most, count_strictly}
 use Rattle.ooo_checked.specs.declared.module.CheckedFunction.{CheckedFunction}
 use Rattle.ooo_walk.specs.Plans.{Viewed, as_function, function_at, member_placed}
 use Rattle.ooo_walk.specs.Reach.{calls_at, calls_in, has, reached_by, reached_from, with_calls, with_function}
@@ -46,52 +49,6 @@ placed [] n h = absurd cc
 placed (x ∷ xs) n h = elim (or_cases (n == x) (has xs n) h) [
   | inl e ↦ (0, ap Some (sym (eqb-true n x e)))
   | inr r ↦ let p = placed xs n r in (suc p.0, p.1)
-]
-
--- ---- counting
-
-one_if : Bool → ℕ
-one_if true = 1
-one_if false = 0
-
-abbrev count : (ℕ → Bool) → ℕ → ℕ
-count p zero = 0
-count p (suc n) = one_if (p n) + count p n
-
-one_at_most : (x : Bool) → one_if x ≤ 1
-unfolding one_if
-one_at_most true = omega arith
-one_at_most false = omega arith
-
-one_more : (x y : Bool) → (x ≡ true → y ≡ true) → one_if x ≤ one_if y
-unfolding one_if
-one_more true true h = omega arith
-one_more true false h = absurd (let e = h refl in cc)
-one_more false y h = omega arith
-
-strictly : (x y : Bool) → x ≡ false → y ≡ true → one_if x < one_if y
-unfolding one_if
-strictly false true f t = omega arith
-strictly false false f t = absurd cc
-strictly true y f t = absurd cc
-
-count_at_most : (p : ℕ → Bool) (n : ℕ) → count p n ≤ n
-count_at_most p zero = omega arith
-count_at_most p (suc n) = let h = count_at_most p n in let g = one_at_most (p n) in omega (arith, h, g)
-
-count_more : (p q : ℕ → Bool) → ((k : ℕ) → p k ≡ true → q k ≡ true) → (n : ℕ) → count p n ≤ count q n
-count_more p q h zero = omega arith
-count_more p q h (suc n) = let g = count_more p q h n in let o = one_more (p n) (q n) (h n) in omega (arith, g, o)
-
-count_strictly : (p q : ℕ → Bool) → ((k : ℕ) → p k ≡ true → q k ≡ true) → (n k : ℕ) → k < n → p k ≡ false → q k ≡ true → count p n < count q n
-count_strictly p q h zero k within f t = absurd (omega (arith, within))
-count_strictly p q h (suc n) k within f t = elim (eqb_tells k n) [
-  | inl w ↦
-      let s = strictly (p n) (q n) (ap p (sym w.1) ∙ f) (ap q (sym w.1) ∙ t) in
-      let g = count_more p q h n in omega (arith, s, g)
-  | inr w ↦
-      let o = one_more (p n) (q n) (h n) in
-      let r : count p n < count q n = count_strictly p q h n k (omega (arith, within, w.1)) f t in omega (arith, o, r)
 ]
 
 -- ---- what is found
@@ -201,9 +158,6 @@ module _ (v : Viewed) where
         | inr w ↦ from_calls left (place + 1) ys k x j y f g (let n = w.1 in omega (arith, low, n)) (omega (arith, high)) at is calls of
       ]
 
-contains_place : (xs : List ℕ) (y : ℕ) → Contains xs y → (k : ℕ) × (slice_get xs k ≡ Some y)
-contains_place xs y (k, within, is) = (k, slice_get-get_or xs k y within ∙ ap Some is)
-
 pub reached_are_closed : ReachedAreClosed
 reached_are_closed v calls =
     let begun = with_calls v [] calls in
@@ -235,9 +189,6 @@ has_at : (xs : List ℕ) (k n : ℕ) → slice_get xs k ≡ Some n → has xs n 
 has_at [] k n h = absurd cc
 has_at (x ∷ xs) zero n h = let same : n ≡ x = cc in or_left (n == x) (has xs n) (eq-eqb n x same)
 has_at (x ∷ xs) (suc k) n h = or_right (n == x) (has xs n) (has_at xs k n h)
-
-contains_at : (xs : List ℕ) (k y : ℕ) → slice_get xs k ≡ Some y → Contains xs y
-contains_at xs k y is = (k, slice_get_within xs k y is, get_or_from_slice_get xs k y y is)
 
 -- what holds of each function that is called holds of all that is found
 module _ (v : Viewed) (P : ℕ → Type 0) where

@@ -1,4 +1,3 @@
-pub mod Lists
 pub mod Notes
 pub mod Waiting
 pub mod Inside

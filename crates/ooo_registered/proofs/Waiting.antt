@@ -4,6 +4,7 @@ use Rattle.std.specs.Prelude.{◌==◌, Contains, not, ◌&&◌}
 use Rattle.std.proofs.lemmas.Bool.{and_right, both_ways, eq-eqb, not_from_true}
 use Rattle.std.proofs.lemmas.List.Elements.{Contains-append_left, Contains-append_right, Contains-append_cases}
 use Rattle.std.proofs.lemmas.List.Folds.{list_any_at}
+use Rattle.ooo_lemmas.proofs.Contained.{not_in_none, in_first, in_later, first_or_later}
 use Rattle.ooo_lexer.specs.declared.position.Position.{Position}
 use Rattle.ooo_syntax.specs.declared.module.Function.{Function}
 use Rattle.ooo_syntax.specs.declared.module.Member.{Member}
@@ -20,7 +21,6 @@ use Rattle.ooo_members.specs.Known.{Registered, is_process, registration_at}
 use Rattle.ooo_members.specs.Members.{functions_in, functions_of}
 use Rattle.ooo_types.specs.Processes.{all_edges, call_notes, edges_of, function_notes, functions_notes, other_notes, trigger_notes, wait_notes, wait_notes_at}
 use Rattle.ooo_right.specs.Right.{AreRight}
-use Rattle.ooo_registered.proofs.Lists.{none, has_first, has_later, first_or_later}
 use Rattle.ooo_registered.proofs.Notes.{first_right, then_right, not_so, so}
 
 -- ---- the functions of a module
@@ -28,10 +28,10 @@ use Rattle.ooo_registered.proofs.Notes.{first_right, then_right, not_so, so}
 -- what is known of a function among members is known among theirs
 pub has_function : (ms : List Member) (s : Scope) (f : Function) → Contains ms (written.Function f) →
     Contains (functions_of ms s) (facts_of f s)
-has_function [] s f h = absurd (none (written.Function f) h)
-has_function (m ∷ ms) s f h = elim (first_or_later m ms (written.Function f) h) [
+has_function [] s f h = absurd (not_in_none (written.Function f) h)
+has_function (m ∷ ms) s f h = elim (first_or_later m (written.Function f) ms h) [
   | inl is ↦ Contains-append_left (functions_in m s) (functions_of ms s) (facts_of f s)
-      (subst (λ x. Contains (functions_in x s) (facts_of f s)) (sym is) (has_first (facts_of f s) []))
+      (subst (λ x. Contains (functions_in x s) (facts_of f s)) (sym is) (in_first (facts_of f s) []))
   | inr later ↦ Contains-append_right (functions_in m s) (functions_of ms s) (facts_of f s) (has_function ms s f later)
 ]
 
@@ -44,19 +44,19 @@ edge from to = record { from = from; to = to }
 -- each call of a function is one of its edges
 pub has_edge : (number : ℕ) (cs : List Call) (y : ℕ) → Contains (map (λ (c : Call). c.function) cs) y →
     Contains (map (λ (c : Call). edge number c.function) cs) (edge number y)
-has_edge number [] y h = absurd (none y h)
-has_edge number (c ∷ cs) y h = elim (first_or_later c.function (map (λ (c : Call). c.function) cs) y h) [
+has_edge number [] y h = absurd (not_in_none y h)
+has_edge number (c ∷ cs) y h = elim (first_or_later c.function y (map (λ (c : Call). c.function) cs) h) [
   | inl is ↦ subst (λ z. Contains (map (λ (c : Call). edge number c.function) (c ∷ cs)) (edge number z)) is
-      (has_first (edge number c.function) (map (λ (c : Call). edge number c.function) cs))
-  | inr later ↦ has_later (edge number c.function) (map (λ (c : Call). edge number c.function) cs) (edge number y)
+      (in_first (edge number c.function) (map (λ (c : Call). edge number c.function) cs))
+  | inr later ↦ in_later (edge number c.function) (edge number y) (map (λ (c : Call). edge number c.function) cs)
       (has_edge number cs y later)
 ]
 
 -- each edge of a function is one of all
 pub has_edges : (fs : List FunctionFacts) (f : FunctionFacts) (c : Edge) → Contains fs f → Contains (edges_of f) c →
     Contains (all_edges fs) c
-has_edges [] f c h at = absurd (none f h)
-has_edges (g ∷ fs) f c h at = elim (first_or_later g fs f h) [
+has_edges [] f c h at = absurd (not_in_none f h)
+has_edges (g ∷ fs) f c h at = elim (first_or_later g f fs h) [
   | inl is ↦ Contains-append_left (edges_of g) (all_edges fs) c
       (subst (λ (k : FunctionFacts). Contains (edges_of k) c) (sym is) at)
   | inr later ↦ Contains-append_right (edges_of g) (all_edges fs) c (has_edges fs f c later at)
@@ -72,8 +72,8 @@ module _ (es : List Edge) (rs : Registered) where
   -- nothing is wrong with any function
   pub each_right : (fs : List FunctionFacts) (f : FunctionFacts) → AreRight (functions_notes es rs fs) → Contains fs f →
       AreRight (function_notes es rs f)
-  each_right [] f right h = absurd (none f h)
-  each_right (g ∷ fs) f right h = elim (first_or_later g fs f h) [
+  each_right [] f right h = absurd (not_in_none f h)
+  each_right (g ∷ fs) f right h = elim (first_or_later g f fs h) [
     | inl is ↦ subst (λ k. AreRight (function_notes es rs k)) is
         (first_right (function_notes es rs g) (functions_notes es rs fs) right)
     | inr later ↦ each_right fs f (then_right (function_notes es rs g) (functions_notes es rs fs) right) later
@@ -82,11 +82,11 @@ module _ (es : List Edge) (rs : Registered) where
   -- no call of a function lies on a cycle
   calls_acyclic : (number : ℕ) (cs : List Call) (c : Edge) → AreRight (call_notes es number cs) →
       Contains (map (λ (c : Call). edge number c.function) cs) c → is_on_cycle es c ≡ false
-  calls_acyclic number [] c right h = absurd (none c h)
+  calls_acyclic number [] c right h = absurd (not_in_none c h)
   calls_acyclic number (k ∷ ks) c right h =
       let first = edge number k.function in
       let here = breach_when (is_on_cycle es first) what.RecursiveCall k.at in
-      elim (first_or_later first (map (λ (c : Call). edge number c.function) ks) c h) [
+      elim (first_or_later first c (map (λ (c : Call). edge number c.function) ks) h) [
         | inl is ↦ subst (λ e. is_on_cycle es e ≡ false) is
             (not_so (is_on_cycle es first) what.RecursiveCall k.at (first_right here (call_notes es number ks) right))
         | inr later ↦ calls_acyclic number ks c (then_right here (call_notes es number ks) right) later
@@ -94,7 +94,7 @@ module _ (es : List Edge) (rs : Registered) where
 
   pub edges_acyclic : (fs : List FunctionFacts) (c : Edge) → AreRight (functions_notes es rs fs) →
       Contains (all_edges fs) c → is_on_cycle es c ≡ false
-  edges_acyclic [] c right h = absurd (none c h)
+  edges_acyclic [] c right h = absurd (not_in_none c h)
   edges_acyclic (f ∷ fs) c right h = elim (Contains-append_cases (edges_of f) (all_edges fs) c h) [
     | inl here ↦ calls_acyclic f.number f.calls c
         (first_right (call_notes es f.number f.calls) (other_notes es rs f)

@@ -1,6 +1,5 @@
 pub mod Lists
 pub mod Marks
-pub mod Ascending
 pub mod SearchLemmas
 pub mod Where
 pub mod Within

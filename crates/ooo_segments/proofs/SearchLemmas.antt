@@ -3,11 +3,12 @@ use Rattle.std.proofs.Common.{◌≡◌, ℕ, ◌<◌, ◌↔◌, Bool, true, fa
 use Rattle.std.specs.Prelude.{slice_get, slice_set, Contains, All}
 use Rattle.std.proofs.lemmas.List.{length_push}
 use Rattle.std.proofs.lemmas.List.Elements.{Contains-push, Contains-push_cases, Contains-append_left, Contains-append_right, Contains-append_cases, Contains-get_or}
+use Rattle.ooo_lemmas.proofs.Contained.{not_in_none, one_is}
 use Rattle.ooo_code.specs.declared.node.Node.{Node}
 use Rattle.ooo_code.specs.Segments.{Reaches, here, further, successors}
 use Rattle.ooo_segments.specs.Numbers.{IsIn}
 use Rattle.ooo_segments.specs.Searches.{Finds, IsSearch}
-use Rattle.ooo_segments.proofs.Lists.{not_in_none, in_one, one_is}
+use Rattle.ooo_segments.proofs.Lists.{in_one}
 use Rattle.ooo_segments.proofs.Marks.{in_kept, in_marked, in_old, not_in_fresh, one_less}
 
 -- a node that is new

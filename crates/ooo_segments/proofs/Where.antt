@@ -2,8 +2,8 @@
 use Rattle.std.proofs.Common.{◌≡◌, ℕ, zero, suc, ◌+◌, ◌-◌, ◌≤◌, Bool, true, false, cond, List, [], ◌∷◌, ◌++◌, length, refl, ap, sym, ◌∙◌, subst, arith, inl, inr, Some, add-zero}
 use Rattle.std.specs.Prelude.{slice_get, Contains, count_by}
 use Rattle.std.proofs.lemmas.List.Sums.{sum_by-cons}
+use Rattle.ooo_lemmas.proofs.Contained.{not_in_none, in_first, in_later, first_or_later}
 use Rattle.ooo_code.specs.Touches.{numbers_where}
-use Rattle.ooo_segments.proofs.Lists.{not_in_none, in_first, in_later, first_or_later}
 
 -- the one that has a number
 pub record PassesAt {A : Type 0} (test : A → Bool) (n : ℕ) (xs : List A) (w : ℕ) : Type 0 where

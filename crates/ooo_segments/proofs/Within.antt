@@ -4,6 +4,7 @@ use Rattle.std.specs.Prelude.{slice_get, Contains, All}
 use Rattle.std.proofs.lemmas.Option.{slice_get-get_or, slice_get_within, get_or_from_slice_get}
 use Rattle.std.proofs.lemmas.List.{get_or-take, get_or-drop, length-take, length-drop}
 use Rattle.std.proofs.lemmas.List.Elements.{All-contains, All-head}
+use Rattle.ooo_lemmas.proofs.Contained.{not_in_none, in_later, first_or_later, mapped_from, in_mapped}
 use Rattle.ooo_code.specs.declared.design.Design.{Design}
 use Rattle.ooo_code.specs.declared.design.Proc.{Proc}
 use Rattle.ooo_code.specs.declared.node.Node.{Node}
@@ -15,7 +16,6 @@ use Rattle.ooo_code.specs.Nodes.{entry_node}
 use Rattle.ooo_code.specs.Segments.{Reaches, here, further, leads_to, successors, followers, is_wait, IsNodeOf, nodes_of, entries_of}
 use Rattle.ooo_code.specs.Touches.{numbers_where}
 use Rattle.ooo_segments.specs.Closed.{IsClosed, AreClosed}
-use Rattle.ooo_segments.proofs.Lists.{not_in_none, first_or_later, mapped_from, in_later, in_mapped}
 use Rattle.ooo_segments.proofs.Where.{passes_at, in_where}
 
 -- a process by its number is closed

@@ -2,6 +2,7 @@
 use Rattle.std.proofs.Common.{◌≡◌, ℕ, inl, inr, ⊎_elim, List, [], ◌∷◌, Bool, true, false, Option, Some, None, refl, sym, ap, ◌∙◌, subst}
 use Rattle.std.specs.Prelude.{slice_get, ◌||◌, Contains}
 use Rattle.std.specs.List.{list_any}
+use Rattle.ooo_lemmas.proofs.Contained.{not_in_none, one_is}
 use Rattle.ooo_value.specs.declared.kinds.Kind.{Kind}
 use Rattle.ooo_value.specs.declared.values.Value.{Value}
 use Rattle.ooo_code.specs.declared.expression.NodeExpr.{NodeExpr}
@@ -31,7 +32,7 @@ use Rattle.ooo_shapes.proofs.Enter.{LaidAt, good}
 use Rattle.ooo_shapes.proofs.Reading.{reads_same, test_reads}
 use Rattle.ooo_shapes.proofs.Touching.{or_false, put_slot, leave_some, return_some}
 use Rattle.ooo_shapes.proofs.Returns.{no_result, return_kept}
-use Rattle.ooo_shapes.proofs.Trees.{marked_kind, none_of, one_of, in_one, two_of, in_two, OneWay, one_way, way_twice, two_ways, Out, Ends, Waits, Goes, Forks, StandsAt, tree_some, Block}
+use Rattle.ooo_shapes.proofs.Trees.{marked_kind, in_one, two_of, in_two, OneWay, one_way, way_twice, two_ways, Out, Ends, Waits, Goes, Forks, StandsAt, tree_some, Block}
 
 -- ---- kinds that lead one way
 
@@ -121,12 +122,12 @@ module _ (b : Bound) (process : BoundProcess) (total : ℕ) (code : List Node) w
     headed = tt;
     rooted = (record { is = is; on = on }, q, way, at);
     outs = λ y o. subst (λ ys. Contains ys y) (sym goes) (in_one rest y o);
-    ways = λ y c. one_of rest y (subst (λ ys. Contains ys y) goes c);
+    ways = λ y c. one_is rest y (subst (λ ys. Contains ys y) goes c);
     touches = touches;
     names = λ e t. absurd t;
-    triggers = λ e c. absurd (none_of e (subst (λ es. Contains es e) triggers c));
+    triggers = λ e c. absurd (not_in_none e (subst (λ es. Contains es e) triggers c));
     waits = λ p w. absurd w;
-    pauses = λ p c. absurd (none_of p (subst (λ ps. Contains ps p) pauses c));
+    pauses = λ p c. absurd (not_in_none p (subst (λ ps. Contains ps p) pauses c));
   }
 
   -- ---- jumps and ends
@@ -136,14 +137,14 @@ module _ (b : Bound) (process : BoundProcess) (total : ℕ) (code : List Node) w
   end_block pc is = record {
     tree = Ends (uncounted kind.End 0 pc);
     headed = tt;
-    rooted = (record { is = is; on = refl }, λ m c. none_of m c);
+    rooted = (record { is = is; on = refl }, λ m c. not_in_none m c);
     outs = λ y o. absurd o;
-    ways = λ y c. absurd (none_of y c);
+    ways = λ y c. absurd (not_in_none y c);
     touches = λ test. refl;
     names = λ e t. absurd t;
-    triggers = λ e c. absurd (none_of e c);
+    triggers = λ e c. absurd (not_in_none e c);
     waits = λ p w. absurd w;
-    pauses = λ p c. absurd (none_of p c);
+    pauses = λ p c. absurd (not_in_none p c);
   }
 
   pub break_block : (line : ℕ) (t : Around) (rest : List Item) (pc next : ℕ) → slice_get code pc ≡ Some (counted kind.Goto line t.break_to) → Stand t rest next → Framed t → BlockAt (Break line ∷ rest) pc
@@ -192,14 +193,14 @@ module _ (b : Bound) (process : BoundProcess) (total : ℕ) (code : List Node) w
           record { is = w.waits; line = refl; waits = (refl, refl); behind = here },
         );
         outs = λ y o. in_one rest y (⊎_elim (λ e. e) (λ e. absurd e) o);
-        ways = λ y c. inl (one_of rest y c);
+        ways = λ y c. inl (one_is rest y c);
         touches = λ test.
             let n = list_any test (notified_next (numbers_where (is_data_written c) 0 b.events)) in
             ap (λ x. (test (HoldsWriting c) || false) || ((x || false) || false)) (put_slot home test c) ∙ put_bool (test (HoldsWriting c)) n;
         names = λ e t. absurd (⊎_elim (λ x. x) (λ x. x) t);
-        triggers = λ e c. absurd (none_of e c);
+        triggers = λ e c. absurd (not_in_none e c);
         waits = λ q o. in_one pause q (⊎_elim (λ e. absurd e) (λ e. e) o);
-        pauses = λ q c. inr (one_of pause q c);
+        pauses = λ q c. inr (one_is pause q c);
       }
 
   -- ---- tests
@@ -227,9 +228,9 @@ module _ (b : Bound) (process : BoundProcess) (total : ℕ) (code : List Node) w
         ways = λ y c. two_of into rest y c;
         touches = λ test. or_false _ ∙ ap (λ xs. list_any test xs) (test_reads t l.test);
         names = λ e t. absurd (⊎_elim (λ x. x) (λ x. x) t);
-        triggers = λ e c. absurd (none_of e c);
+        triggers = λ e c. absurd (not_in_none e c);
         waits = λ q o. absurd (⊎_elim (λ e. e) (λ e. e) o);
-        pauses = λ q c. absurd (none_of q c);
+        pauses = λ q c. absurd (not_in_none q c);
       }
 
   -- the way past what follows each turn
@@ -277,7 +278,7 @@ module _ (b : Bound) (process : BoundProcess) (total : ℕ) (code : List Node) w
         ways = λ z c. two_of (entered x rest) (entered_if y rest) z c;
         touches = λ test. or_false _ ∙ ap (λ xs. list_any test xs) (reads_same t e);
         names = λ e t. absurd (⊎_elim (λ x. x) (λ x. x) t);
-        triggers = λ e c. absurd (none_of e c);
+        triggers = λ e c. absurd (not_in_none e c);
         waits = λ q o. absurd (⊎_elim (λ e. e) (λ e. e) o);
-        pauses = λ q c. absurd (none_of q c);
+        pauses = λ q c. absurd (not_in_none q c);
       }

@@ -2,6 +2,9 @@
 use Rattle.std.proofs.Common.{◌≡◌, ℕ, zero, suc, inl, inr, List, [], ◌∷◌, ◌++◌, length, Bool, true, false, if◌then◌else◌, Option, Some, None, Result, Ok, Err, refl, sym, ap, ◌∙◌, subst}
 use Rattle.std.specs.Prelude.{slice_get, slice_set, Contains}
 use Rattle.std.proofs.lemmas.List.{length-set, get_or-set_other}
+use Rattle.std.specs.List.{AllByRecursion}
+use Rattle.ooo_lemmas.proofs.Placed.{set_alike}
+use Rattle.ooo_lemmas.proofs.Each.{first_part, then_part, each_contained}
 use Rattle.ooo_time.specs.declared.stamp.Stamp.{Stamp}
 use Rattle.ooo_time.specs.TimeText.{time_text}
 use Rattle.ooo_value.specs.declared.bound.ProcessKind.{ProcessKind}
@@ -45,7 +48,6 @@ use Rattle.ooo_activation.specs.Activations.{Place, Course, Setting, Next, Onwar
 use Rattle.ooo_activation.specs.Touches as text
 use Rattle.ooo_shapes.specs.Segments.{no_values, call_goes_to, goes_to, Comes, stays, call_reads, first_touches, Touches, without_values}
 use Rattle.ooo_shapes.proofs.Blanks.{entered_left, maybe_entered_left, body_left, opened_left, maybe_left, after_left, at_left, returned_left, come_on}
-use Rattle.ooo_shapes.proofs.Every.{Every, every_left, every_right, every_contained, set_alike}
 use Rattle.ooo_shapes.proofs.Evaluating.{SameSight, same_reading, same_time, same_wait}
 use Rattle.ooo_shapes.proofs.Trees.{in_one, in_two}
 
@@ -179,11 +181,11 @@ module _ (T : Touch → Type 0) (first : List (List Value)) where
     abbrev into_touches : BoundTarget → List Touch
     into_touches t = text.target_touches b.events t
 
-    value_alike : (x : BoundExpr) (line : ℕ) (locals : Locals) → Every T (text.reads_of x) → (d e : Course) → SameCourse d e → (f g : Value → Outcome Place) → ((v : Value) → Alike (f v) (g v)) → Alike (with_value x line locals d f) (with_value x line locals e g)
+    value_alike : (x : BoundExpr) (line : ℕ) (locals : Locals) → AllByRecursion T (text.reads_of x) → (d e : Course) → SameCourse d e → (f g : Value → Outcome Place) → ((v : Value) → Alike (f v) (g v)) → Alike (with_value x line locals d f) (with_value x line locals e g)
     value_alike x line locals t d e h f g go =
         result_alike line locals (reading_of x (sight_of locals d)) (reading_of x (sight_of locals e)) (same_reading T (sight_of locals d) (sight_of locals e) (sight_same locals d e h) x t) d e h f g go
 
-    aim_alike : (t : BoundTarget) (line : ℕ) (locals : Locals) → Every T (into_touches t) → (d e : Course) → SameCourse d e → (f g : Value → Outcome Place) → ((v : Value) → Alike (f v) (g v)) → Alike (with_aim t line locals d f) (with_aim t line locals e g)
+    aim_alike : (t : BoundTarget) (line : ℕ) (locals : Locals) → AllByRecursion T (into_touches t) → (d e : Course) → SameCourse d e → (f g : Value → Outcome Place) → ((v : Value) → Alike (f v) (g v)) → Alike (with_aim t line locals d f) (with_aim t line locals e g)
     aim_alike (target.Element x i) line locals t d e h f g go = value_alike i line locals t.1 d e h f g go
     aim_alike target.Nothing line locals t d e h f g go = go no_value
     aim_alike (target.Local k n) line locals t d e h f g go = go no_value
@@ -194,7 +196,7 @@ module _ (T : Touch → Type 0) (first : List (List Value)) where
     abbrev AlikeOn : Onward → Type 0
     AlikeOn go = (locals : Locals) (d e : Course) → SameCourse d e → Alike (go locals d) (go locals e)
 
-    assigned_alike : (t : BoundTarget) (index v : Value) (line : ℕ) (locals : Locals) → Every T (into_touches t) → (d e : Course) → SameCourse d e → (go : Onward) → AlikeOn go → Alike (assigned setting t index v line locals d go) (assigned setting t index v line locals e go)
+    assigned_alike : (t : BoundTarget) (index v : Value) (line : ℕ) (locals : Locals) → AllByRecursion T (into_touches t) → (d e : Course) → SameCourse d e → (go : Onward) → AlikeOn go → Alike (assigned setting t index v line locals d go) (assigned setting t index v line locals e go)
     assigned_alike target.Nothing index v line locals t d e h go k = k locals d e h
     assigned_alike (target.Local j n) index v line locals t d e h go k = k (with_local j n (conversion_of v j) locals) d e h
     assigned_alike (target.Variable x) index v line locals t d e h go k =
@@ -213,43 +215,43 @@ module _ (T : Touch → Type 0) (first : List (List Value)) where
         let f = effect.Request c (conversion_of v (channel_kind b c)) in
         k locals (with_effect f d) (with_effect f e) (effect_same f t.0 d e h)
 
-    assign_alike : (t : BoundTarget) (v : Value) (line : ℕ) (locals : Locals) → Every T (into_touches t) → (d e : Course) → SameCourse d e → (go : Onward) → AlikeOn go → Alike (assign setting t v line locals d go) (assign setting t v line locals e go)
+    assign_alike : (t : BoundTarget) (v : Value) (line : ℕ) (locals : Locals) → AllByRecursion T (into_touches t) → (d e : Course) → SameCourse d e → (go : Onward) → AlikeOn go → Alike (assign setting t v line locals d go) (assign setting t v line locals e go)
     assign_alike t v line locals touched d e h go k =
         aim_alike t line locals touched d e h (λ index. assigned setting t index v line locals d go) (λ index. assigned setting t index v line locals e go) (λ index. assigned_alike t index v line locals touched d e h go k)
 
-    current_same : (t : BoundTarget) (index : Value) (locals : Locals) → Every T (text.target_reads t) → (d e : Course) → SameCourse d e → current t index locals d ≡ current t index locals e
+    current_same : (t : BoundTarget) (index : Value) (locals : Locals) → AllByRecursion T (text.target_reads t) → (d e : Course) → SameCourse d e → current t index locals d ≡ current t index locals e
     current_same target.Nothing index locals t d e h = refl
     current_same (target.Local k n) index locals t d e h = refl
     current_same (target.Variable x) index locals t d e h = rw (h.variables.read x t.0) refl
     current_same (target.Element x i) index locals t d e h = ap (λ c. element_at c (index_in (length c) (number_of index))) (h.variables.read x t.0)
     current_same (target.Signal c) index locals t d e h = rw (h.signals c t.0) refl
 
-    args_alike : (n : ℕ) (ks : List Kind) (es : List BoundExpr) (line : ℕ) (locals : Locals) → Every T (text.arguments_read ks es) → (d e : Course) → SameCourse d e → (given : Locals) (f g : Locals → Outcome Place) → ((given : Locals) → Alike (f given) (g given)) → Alike (with_arguments n ks es line locals d given f) (with_arguments n ks es line locals e given g)
+    args_alike : (n : ℕ) (ks : List Kind) (es : List BoundExpr) (line : ℕ) (locals : Locals) → AllByRecursion T (text.arguments_read ks es) → (d e : Course) → SameCourse d e → (given : Locals) (f g : Locals → Outcome Place) → ((given : Locals) → Alike (f given) (g given)) → Alike (with_arguments n ks es line locals d given f) (with_arguments n ks es line locals e given g)
     args_alike n [] [] line locals t d e h given f g k = k given
     args_alike n [] (x ∷ xs) line locals t d e h given f g k = k given
     args_alike n (j ∷ ks) [] line locals t d e h given f g k = k given
     args_alike n (j ∷ ks) (x ∷ xs) line locals t d e h given f g k =
-        value_alike x line locals (every_left T (text.reads_of x) (text.arguments_read ks xs) t) d e h
+        value_alike x line locals (first_part T (text.reads_of x) (text.arguments_read ks xs) t) d e h
         (λ v. with_arguments (suc n) ks xs line locals d (with_local j n (conversion_of v j) given) f)
         (λ v. with_arguments (suc n) ks xs line locals e (with_local j n (conversion_of v j) given) g)
-        (λ v. args_alike (suc n) ks xs line locals (every_right T (text.reads_of x) (text.arguments_read ks xs) t) d e h (with_local j n (conversion_of v j) given) f g k)
+        (λ v. args_alike (suc n) ks xs line locals (then_part T (text.reads_of x) (text.arguments_read ks xs) t) d e h (with_local j n (conversion_of v j) given) f g k)
 
-    prints_alike : (xs : List BoundItem) (line : ℕ) (locals : Locals) → Every T (text.items_read xs) → (d e : Course) → SameCourse d e → (go : Course → Outcome Place) → ((d e : Course) → SameCourse d e → Alike (go d) (go e)) → Alike (prints setting xs line locals d go) (prints setting xs line locals e go)
+    prints_alike : (xs : List BoundItem) (line : ℕ) (locals : Locals) → AllByRecursion T (text.items_read xs) → (d e : Course) → SameCourse d e → (go : Course → Outcome Place) → ((d e : Course) → SameCourse d e → Alike (go d) (go e)) → Alike (prints setting xs line locals d go) (prints setting xs line locals e go)
     prints_alike [] line locals t d e h go k = k d e h
     prints_alike (item.Value x ∷ xs) line locals t d e h go k =
-        value_alike x line locals (every_left T (text.reads_of x) (text.items_read xs) t) d e h
+        value_alike x line locals (first_part T (text.reads_of x) (text.items_read xs) t) d e h
         (λ v. prints setting xs line locals (with_output (value_text v) d) go) (λ v. prints setting xs line locals (with_output (value_text v) e) go)
-        (λ v. prints_alike xs line locals (every_right T (text.reads_of x) (text.items_read xs) t) (with_output (value_text v) d) (with_output (value_text v) e) (output_same (value_text v) d e h) go k)
+        (λ v. prints_alike xs line locals (then_part T (text.reads_of x) (text.items_read xs) t) (with_output (value_text v) d) (with_output (value_text v) e) (output_same (value_text v) d e h) go k)
     prints_alike (item.Text words ∷ xs) line locals t d e h go k =
         prints_alike xs line locals t (with_output words d) (with_output words e) (output_same words d e h) go k
     prints_alike (item.Time ∷ xs) line locals t d e h go k =
         let words = time_text stamp.time in prints_alike xs line locals t (with_output words d) (with_output words e) (output_same words d e h) go k
 
-    test_alike : (x : Option BoundExpr) (line : ℕ) (locals : Locals) → Every T (text.option_reads x) → (d e : Course) → SameCourse d e → (f g : Value → Outcome Place) → ((v : Value) → Alike (f v) (g v)) → Alike (with_test x line locals d f) (with_test x line locals e g)
+    test_alike : (x : Option BoundExpr) (line : ℕ) (locals : Locals) → AllByRecursion T (text.option_reads x) → (d e : Course) → SameCourse d e → (f g : Value → Outcome Place) → ((v : Value) → Alike (f v) (g v)) → Alike (with_test x line locals d f) (with_test x line locals e g)
     test_alike None line locals t d e h f g k = k (value.Bool true)
     test_alike (Some x) line locals t d e h f g k = value_alike x line locals t d e h f g k
 
-    returned_alike : (x : Option BoundExpr) (line : ℕ) (locals : Locals) → Every T (text.option_reads x) → (d e : Course) → SameCourse d e → (f g : Option Value → Outcome Place) → ((v : Option Value) → Alike (f v) (g v)) → Alike (with_returned x line locals d f) (with_returned x line locals e g)
+    returned_alike : (x : Option BoundExpr) (line : ℕ) (locals : Locals) → AllByRecursion T (text.option_reads x) → (d e : Course) → SameCourse d e → (f g : Option Value → Outcome Place) → ((v : Option Value) → Alike (f v) (g v)) → Alike (with_returned x line locals d f) (with_returned x line locals e g)
     returned_alike None line locals t d e h f g k = k None
     returned_alike (Some x) line locals t d e h f g k = value_alike x line locals t d e h (λ v. f (Some v)) (λ v. g (Some v)) (λ v. k (Some v))
 
@@ -285,8 +287,8 @@ module _ (shows : SeesOwnSteps) (b : Bound) (process : BoundProcess) (stamp : St
   come items next later c e g = come_on b start items next later c e g
 
   -- what the first of them touches
-  first_touched : (items : List Item) → Come items → Every T (first_touches b (without_values items))
-  first_touched items c = every_contained T (first_touches b (without_values items)) (λ t h. record { later = without_values items; comes = c; touches = h })
+  first_touched : (items : List Item) → Come items → AllByRecursion T (first_touches b (without_values items))
+  first_touched items c = each_contained T (first_touches b (without_values items)) (λ t h. record { later = without_values items; comes = c; touches = h })
 
   -- what follows is alike at all items that are come to
   abbrev AllAlike : Next → Type 0
@@ -302,7 +304,7 @@ module _ (shows : SeesOwnSteps) (b : Bound) (process : BoundProcess) (stamp : St
         let left = without_values rest in
         all rest locals d f (come items rest left c refl (subst (λ ys. Contains ys left) (sym e) (in_one left left refl))) h
 
-    call_alike : (o : Option BoundFunction) (t : BoundTarget) (args : List BoundExpr) (line : ℕ) (rest : List Item) (locals : Locals) (d e : Course) → Same d e → Every T (call_reads o args) → ((f : BoundFunction) → o ≡ Some f → (v : Value) (saved : Locals) → Come (entered_all f.body (Leave line t f.result v saved ∷ rest))) → Did (call o t args line next rest locals d) (call o t args line next rest locals e)
+    call_alike : (o : Option BoundFunction) (t : BoundTarget) (args : List BoundExpr) (line : ℕ) (rest : List Item) (locals : Locals) (d e : Course) → Same d e → AllByRecursion T (call_reads o args) → ((f : BoundFunction) → o ≡ Some f → (v : Value) (saved : Locals) → Come (entered_all f.body (Leave line t f.result v saved ∷ rest))) → Did (call o t args line next rest locals d) (call o t args line next rest locals e)
     call_alike None t args line rest locals d e h touched c = ends_alike T first [] locals job.Ended d e h
     call_alike (Some f) t args line rest locals d e h touched c =
         let into = entered_all f.body (Leave line t f.result (first_result f.result) locals ∷ rest) in
@@ -326,9 +328,9 @@ module _ (shows : SeesOwnSteps) (b : Bound) (process : BoundProcess) (stamp : St
         let items = lined line (simple.Assign t (right.Value x)) rest in
         let touched = first_touched items c in
         let on = passed items rest c refl in
-        value_alike T first b process stamp x line locals (every_left T (text.reads_of x) (text.target_touches b.events t) touched) d e h
+        value_alike T first b process stamp x line locals (first_part T (text.reads_of x) (text.target_touches b.events t) touched) d e h
         (λ v. assign s t v line locals d (next rest)) (λ v. assign s t v line locals e (next rest)) (λ v.
-        assign_alike T first b process stamp t v line locals (every_right T (text.reads_of x) (text.target_touches b.events t) touched) d e h (next rest) on)
+        assign_alike T first b process stamp t v line locals (then_part T (text.reads_of x) (text.target_touches b.events t) touched) d e h (next rest) on)
     right_alike line t (right.Call f args) rest locals d e c h =
         let items = lined line (simple.Assign t (right.Call f args)) rest in
         call_alike (slice_get b.functions f) t args line rest locals d e h (first_touched items c) (called items rest line t (slice_get b.functions f) c refl)
@@ -336,8 +338,8 @@ module _ (shows : SeesOwnSteps) (b : Bound) (process : BoundProcess) (stamp : St
         let items = lined line (simple.Assign t (right.Read f)) rest in
         let touched = first_touched items c in
         let on = passed items rest c refl in
-        let taken = every_left T (text.take_touches b.events f) (text.target_touches b.events t) touched in
-        let into = every_right T (text.take_touches b.events f) (text.target_touches b.events t) touched in
+        let taken = first_part T (text.take_touches b.events f) (text.target_touches b.events t) touched in
+        let into = then_part T (text.take_touches b.events f) (text.target_touches b.events t) touched in
         first_alike T first (fifo_seen d.seen f).values (fifo_seen e.seen f).values (h.readable f taken.0) _ _
         (λ v. assign s t v line locals (with_take f d) (next rest)) (λ v. assign s t v line locals (with_take f e) (next rest))
         (ends_alike T first items locals _ d e h) (λ v.
@@ -346,10 +348,10 @@ module _ (shows : SeesOwnSteps) (b : Bound) (process : BoundProcess) (stamp : St
         let items = lined line (simple.Assign t (right.NbRead f x)) rest in
         let touched = first_touched items c in
         let on = passed items rest c refl in
-        let front = every_left T (text.take_touches b.events f ++ text.target_touches b.events x) (text.target_touches b.events t) touched in
-        let taken = every_left T (text.take_touches b.events f) (text.target_touches b.events x) front in
-        let aimed = every_right T (text.take_touches b.events f) (text.target_touches b.events x) front in
-        let into = every_right T (text.take_touches b.events f ++ text.target_touches b.events x) (text.target_touches b.events t) touched in
+        let front = first_part T (text.take_touches b.events f ++ text.target_touches b.events x) (text.target_touches b.events t) touched in
+        let taken = first_part T (text.take_touches b.events f) (text.target_touches b.events x) front in
+        let aimed = then_part T (text.take_touches b.events f) (text.target_touches b.events x) front in
+        let into = then_part T (text.take_touches b.events f ++ text.target_touches b.events x) (text.target_touches b.events t) touched in
         let yes : Onward = λ locals d. assign s t (value.Bool true) line locals d (next rest) in
         aim_alike T first b process stamp x line locals aimed d e h _ _ (λ index.
         first_alike T first (fifo_seen d.seen f).values (fifo_seen e.seen f).values (h.readable f taken.0)
@@ -362,10 +364,10 @@ module _ (shows : SeesOwnSteps) (b : Bound) (process : BoundProcess) (stamp : St
         let items = lined line (simple.Assign t (right.NbWrite f x)) rest in
         let touched = first_touched items c in
         let on = passed items rest c refl in
-        let front = every_left T (text.reads_of x ++ text.put_touches b.events f) (text.target_touches b.events t) touched in
-        let puts = every_right T (text.reads_of x) (text.put_touches b.events f) front in
-        let into = every_right T (text.reads_of x ++ text.put_touches b.events f) (text.target_touches b.events t) touched in
-        value_alike T first b process stamp x line locals (every_left T (text.reads_of x) (text.put_touches b.events f) front) d e h _ _ (λ v.
+        let front = first_part T (text.reads_of x ++ text.put_touches b.events f) (text.target_touches b.events t) touched in
+        let puts = then_part T (text.reads_of x) (text.put_touches b.events f) front in
+        let into = then_part T (text.reads_of x ++ text.put_touches b.events f) (text.target_touches b.events t) touched in
+        value_alike T first b process stamp x line locals (first_part T (text.reads_of x) (text.put_touches b.events f) front) d e h _ _ (λ v.
         let w = conversion_of v (channel_kind b f) in
         free_alike T first (fifo_seen d.seen f).free (fifo_seen e.seen f).free (h.writable f puts.0)
         (assign s t (value.Bool false) line locals d (next rest)) (assign s t (value.Bool false) line locals e (next rest))
@@ -378,10 +380,10 @@ module _ (shows : SeesOwnSteps) (b : Bound) (process : BoundProcess) (stamp : St
         let items = lined line (simple.Update t op x) rest in
         let touched = first_touched items c in
         let on = passed items rest c refl in
-        let front = every_left T (text.reads_of x ++ text.target_reads t) (text.target_touches b.events t) touched in
-        let into = every_right T (text.reads_of x ++ text.target_reads t) (text.target_touches b.events t) touched in
-        let read = every_right T (text.reads_of x) (text.target_reads t) front in
-        value_alike T first b process stamp x line locals (every_left T (text.reads_of x) (text.target_reads t) front) d e h _ _ (λ v.
+        let front = first_part T (text.reads_of x ++ text.target_reads t) (text.target_touches b.events t) touched in
+        let into = then_part T (text.reads_of x ++ text.target_reads t) (text.target_touches b.events t) touched in
+        let read = then_part T (text.reads_of x) (text.target_reads t) front in
+        value_alike T first b process stamp x line locals (first_part T (text.reads_of x) (text.target_reads t) front) d e h _ _ (λ v.
         aim_alike T first b process stamp t line locals into d e h _ _ (λ index.
         result_alike T first line locals (current t index locals d) (current t index locals e) (current_same T first b process stamp t index locals read d e h) d e h _ _ (λ a.
         result_alike T first line locals (binary_of op a v) (binary_of op a v) refl d e h _ _ (λ r.

@@ -2,6 +2,7 @@
 use Rattle.std.proofs.Common.{◌≡◌, ℕ, zero, suc, ◌+◌, ◌≤◌, inl, inr, ⊎_elim, List, [], ◌∷◌, ◌++◌, length, Bool, true, false, Option, Some, None, refl, sym, ap, ap₂, ◌∙◌, subst, arith, length-append}
 use Rattle.std.specs.Prelude.{slice_get, min, ◌||◌, Contains}
 use Rattle.std.specs.List.{list_any}
+use Rattle.ooo_lemmas.proofs.Contained.{not_in_none, one_is}
 use Rattle.ooo_value.specs.declared.kinds.Kind.{Kind}
 use Rattle.ooo_value.specs.declared.operators.Op.{Op}
 use Rattle.ooo_code.specs.declared.expression.NodeExpr.{NodeExpr}
@@ -43,7 +44,7 @@ use Rattle.ooo_shapes.proofs.Enter.{begins_end, begins_some, zero_full, argument
 use Rattle.ooo_shapes.proofs.Zeros.{count_kinds}
 use Rattle.ooo_shapes.proofs.Reading.{wait_reads_same}
 use Rattle.ooo_shapes.proofs.Touching.{or_false, nodes_some, set_some, zeros_some, arguments_some, simple_gives, calls_give}
-use Rattle.ooo_shapes.proofs.Trees.{marked_kind, none_of, one_of, in_one, OneWay, one_way, way_twice, two_ways, Tree, Out, Waits, Sets, Goes, Forks, Passes, Rooted, node_some, Does, chain, chain_out, out_chain, chain_pause, chain_trigger, chain_some}
+use Rattle.ooo_shapes.proofs.Trees.{marked_kind, in_one, OneWay, one_way, way_twice, two_ways, Tree, Out, Waits, Sets, Goes, Forks, Passes, Rooted, node_some, Does, chain, chain_out, out_chain, chain_pause, chain_trigger, chain_some}
 use Rattle.ooo_shapes.proofs.Blocks.{put_goes, put_passes, home, At, BlockAt, Stand, Framed, rest_stands, one_block}
 
 -- ---- kinds that lead one way
@@ -139,12 +140,12 @@ module _ (b : Bound) (process : BoundProcess) (total : ℕ) (code : List Node) w
     headed = tt;
     rooted = r;
     outs = λ y o. subst (λ ys. Contains ys y) (sym goes) (in_one rest y (chain_out is (Out rest) y o));
-    ways = λ y c. out_chain is (Out rest) y (one_of rest y (subst (λ ys. Contains ys y) goes c));
+    ways = λ y c. out_chain is (Out rest) y (one_is rest y (subst (λ ys. Contains ys y) goes c));
     touches = λ test. chain_some b process total code test (i ∷ is) (Out rest) ∙ or_false (nodes_some h test (i ∷ is)) ∙ touches test;
     names = λ e t. absurd (chain_trigger is (Out rest) e t);
-    triggers = λ e c. absurd (none_of e (subst (λ es. Contains es e) triggers c));
+    triggers = λ e c. absurd (not_in_none e (subst (λ es. Contains es e) triggers c));
     waits = λ p w. absurd (chain_pause is (Out rest) p w);
-    pauses = λ p c. absurd (none_of p (subst (λ ps. Contains ps p) pauses c));
+    pauses = λ p c. absurd (not_in_none p (subst (λ ps. Contains ps p) pauses c));
   }
 
   -- the items of a print
@@ -213,12 +214,12 @@ module _ (b : Bound) (process : BoundProcess) (total : ℕ) (code : List Node) w
           headed = tt;
           rooted = record { is = has.0; line = refl; waits = (time_fixed t w.time, refl); behind = at };
           outs = λ y o. absurd o;
-          ways = λ y c. absurd (none_of y c);
+          ways = λ y c. absurd (not_in_none y c);
           touches = λ test. ap (λ ts. list_any test ts) (wait_reads_same t w.time);
           names = λ e t. absurd t;
-          triggers = λ e c. absurd (none_of e c);
+          triggers = λ e c. absurd (not_in_none e c);
           waits = λ p o. in_one pause p o;
-          pauses = λ p c. one_of pause p c;
+          pauses = λ p c. one_is pause p c;
         }
 
     trigger_block : (w : BoundWait) → BlockOf (simple.NextTrigger w)
@@ -227,12 +228,12 @@ module _ (b : Bound) (process : BoundProcess) (total : ℕ) (code : List Node) w
       headed = tt;
       rooted = (record { is = has.0; on = refl }, next, one_way next, at);
       outs = λ y o. in_one rest y o;
-      ways = λ y c. one_of rest y c;
+      ways = λ y c. one_is rest y c;
       touches = λ test. touched (simple.NextTrigger w) f test;
       names = λ e t. ⊎_elim (λ c. c) (λ x. absurd x) t;
       triggers = λ e c. inl c;
       waits = λ p o. absurd o;
-      pauses = λ p c. absurd (none_of p c);
+      pauses = λ p c. absurd (not_in_none p c);
     }
 
     -- ---- statements of fifos
@@ -267,13 +268,13 @@ module _ (b : Bound) (process : BoundProcess) (total : ℕ) (code : List Node) w
             record { is = has.1.0; line = refl; waits = (refl, refl); behind = again },
           );
           outs = λ y o. in_one rest y (⊎_elim (λ e. e) (λ e. absurd e) o);
-          ways = λ y g. inl (one_of rest y g);
+          ways = λ y g. inl (one_is rest y g);
           touches = λ test.
               ap (λ x. node_some b process total code test tests || x) (or_false (nodes_some h test (takes ∷ puts ∷ []))) ∙ touched (simple.Assign into (right.Read c)) f test;
           names = λ e t. absurd (⊎_elim (λ x. x) (λ x. x) t);
-          triggers = λ e c. absurd (none_of e c);
+          triggers = λ e c. absurd (not_in_none e c);
           waits = λ p o. in_one pause p (⊎_elim (λ e. absurd e) (λ e. e) o);
-          pauses = λ p g. inr (one_of pause p g);
+          pauses = λ p g. inr (one_is pause p g);
         }
 
     nb_read_block : (into : BoundTarget) (c : ℕ) (x : BoundTarget) → BlockOf (simple.Assign into (right.NbRead c x))
@@ -321,14 +322,14 @@ module _ (b : Bound) (process : BoundProcess) (total : ℕ) (code : List Node) w
             ),
           );
           outs = λ y o. in_one rest y (⊎_elim (λ e. e) (λ e. e) o);
-          ways = λ y g. inl (one_of rest y g);
+          ways = λ y g. inl (one_is rest y g);
           touches = λ test.
               ap (λ z. node_some b process total code test aims || (node_some b process total code test tests || z)) (both_ways (node_some b process total code test takes) (node_some b process total code test puts) (node_some b process total code test yes) (node_some b process total code test no))
               ∙ touched (simple.Assign into (right.NbRead c x)) f test;
           names = λ e t. absurd (⊎_elim (λ x. x) (λ x. x) t);
-          triggers = λ e c. absurd (none_of e c);
+          triggers = λ e c. absurd (not_in_none e c);
           waits = λ p o. absurd (⊎_elim (λ e. e) (λ e. e) o);
-          pauses = λ p g. absurd (none_of p g);
+          pauses = λ p g. absurd (not_in_none p g);
         }
 
     nb_write_block : (into : BoundTarget) (c : ℕ) (e : BoundExpr) → BlockOf (simple.Assign into (right.NbWrite c e))
@@ -370,14 +371,14 @@ module _ (b : Bound) (process : BoundProcess) (total : ℕ) (code : List Node) w
             ),
           );
           outs = λ y o. in_one rest y (⊎_elim (λ e. e) (λ e. e) o);
-          ways = λ y g. inl (one_of rest y g);
+          ways = λ y g. inl (one_is rest y g);
           touches = λ test.
               ap (λ z. node_some b process total code test sets || (node_some b process total code test tests || z)) (put_ways (node_some b process total code test puts) (node_some b process total code test yes) (node_some b process total code test no))
               ∙ touched (simple.Assign into (right.NbWrite c e)) f test;
           names = λ e t. absurd (⊎_elim (λ x. x) (λ x. x) t);
-          triggers = λ e c. absurd (none_of e c);
+          triggers = λ e c. absurd (not_in_none e c);
           waits = λ p o. absurd (⊎_elim (λ e. e) (λ e. e) o);
-          pauses = λ p g. absurd (none_of p g);
+          pauses = λ p g. absurd (not_in_none p g);
         }
 
     -- the value of a blocking write
@@ -502,16 +503,16 @@ module _ (b : Bound) (process : BoundProcess) (total : ℕ) (code : List Node) w
             (args_rooted t u line 0 fn.params args args_at (Out items) (has_front b process total code args_at args_nodes (body_nodes ++ last) args_has) body_stands),
       );
       outs = λ y o. in_one items y (chain_out args_nodes (Out items) y (chain_out first_nodes (chain args_nodes (Out items)) y o));
-      ways = λ y c. out_chain first_nodes (chain args_nodes (Out items)) y (out_chain args_nodes (Out items) y (one_of items y c));
+      ways = λ y c. out_chain first_nodes (chain args_nodes (Out items)) y (out_chain args_nodes (Out items) y (one_is items y c));
       touches = λ test.
           chain_some b process total code test first_nodes (chain args_nodes (Out items))
           ∙ ap₂ (λ x y. x || y) (zeros_some h test line free (call_kinds fn) (pc + 1)) (chain_some b process total code test args_nodes (Out items))
           ∙ or_false (nodes_some h test args_nodes)
           ∙ arguments_some h test t u line 0 fn.params args args_at;
       names = λ e t. absurd (chain_trigger args_nodes (Out items) e (chain_trigger first_nodes (chain args_nodes (Out items)) e t));
-      triggers = λ e c. absurd (none_of e c);
+      triggers = λ e c. absurd (not_in_none e c);
       waits = λ q w. absurd (chain_pause args_nodes (Out items) q (chain_pause first_nodes (chain args_nodes (Out items)) q w));
-      pauses = λ q c. absurd (none_of q c);
+      pauses = λ q c. absurd (not_in_none q c);
     }
 
   -- a call of a function that is looked up

@@ -2,6 +2,7 @@
 use Rattle.std.proofs.Common.{◌≡◌, ℕ, zero, suc, ◌+◌, ◌<◌, ◌≤◌, List, [], ◌∷◌, ◌++◌, length, Bool, false, Some, None, refl, sym, ap, ◌∙◌, subst, arith}
 use Rattle.std.specs.Prelude.{slice_get, All, Contains, IsTrue}
 use Rattle.std.proofs.lemmas.List.Elements.{All-nil, All-cons, All-contains}
+use Rattle.ooo_lemmas.proofs.Each.{all_one}
 use Rattle.ooo_value.specs.declared.bound.ProcessKind.TheVariants.{Method}
 use Rattle.ooo_value.specs.declared.kinds.Kind.{Kind}
 use Rattle.ooo_code.specs.declared.design.Design.{Design}
@@ -17,11 +18,8 @@ use Rattle.ooo_shapes.specs.Simples.{begins}
 use Rattle.ooo_shapes.proofs.Places.{HasAt, After}
 use Rattle.ooo_shapes.proofs.Enter.{begins_some}
 
-one : {A : Type 0} (P : A → Type 0) (x : A) → P x → All P (x ∷ [])
-one P x h = All-cons P x [] h (All-nil P)
-
 two : {A : Type 0} (P : A → Type 0) (x y : A) → P x → P y → All P (x ∷ y ∷ [])
-two P x y h i = All-cons P x (y ∷ []) h (one P y i)
+two P x y h i = All-cons P x (y ∷ []) h (all_one P y i)
 
 -- each node that a process may begin with may be entered from everywhere
 may_lead : (from : NodeKind) (next n : ℕ) (to : NodeKind) → MayBegin to → MayLeadTo from next n to
@@ -60,7 +58,7 @@ module _ (b : Bound) (process : BoundProcess) (code : List Node) (first end : �
   abbrev pub Way : (counts : Bool) → (p q : ℕ) → Type 0
   Way counts p q = Enter q × (counts ≡ false → IsAfter (p + 1) q)
 
-  -- behind a test for a value there is its take, and behind one for a free slot its put
+  -- behind a test for a value there is its take, and behind all_one for a free slot its put
   pub record Tested (k : NodeKind) (next other : ℕ) : Type 0 where
     pub node : Node
     pub is : slice_get code next ≡ Some node
@@ -143,14 +141,14 @@ module _ (b : Bound) (process : BoundProcess) (code : List Node) (first end : �
         let k : kind.Put c e ≡ to.kind = sym t.kind_is ∙ ap (λ (i : Node). i.kind) same in
         subst (λ k. MayLeadTo (kind.TestFree c other) next next k) k (refl, refl, t.apart)
 
-    -- a node that leads on to one place
+    -- a node that leads on to all_one place
     plain : (p : ℕ) (i : Node) → FitsNode names b.events i.kind → HasStatic process.sensitive i.kind → (process.kind ≡ Method → is_wait i ≡ false) → (q : ℕ) → followers i ≡ q ∷ [] → Enter q → FitsProcessNode design proc p i
     plain p i fits static method q only e = record {
       names = fits;
-      own = subst (λ ns. All (IsNodeOf proc) ns) (sym only) (one (IsNodeOf proc) q (enter_own q e));
+      own = subst (λ ns. All (IsNodeOf proc) ns) (sym only) (all_one (IsNodeOf proc) q (enter_own q e));
       static = static;
       method = method;
-      tested = λ n to c is. All-contains (MayFollow i.kind i.next) (q ∷ []) n (one (MayFollow i.kind i.next) q (enter_follow i.kind i.next q e)) (subst (λ ns. Contains ns n) only c) to is;
+      tested = λ n to c is. All-contains (MayFollow i.kind i.next) (q ∷ []) n (all_one (MayFollow i.kind i.next) q (enter_follow i.kind i.next q e)) (subst (λ ns. Contains ns n) only c) to is;
     }
 
     branching : (p : ℕ) (i : Node) → FitsNode names b.events i.kind → HasStatic process.sensitive i.kind → (process.kind ≡ Method → is_wait i ≡ false) → (q r : ℕ) → followers i ≡ q ∷ r ∷ [] → IsNodeOf proc q → MayFollow i.kind i.next q → Enter r → FitsProcessNode design proc p i
@@ -189,7 +187,7 @@ module _ (b : Bound) (process : BoundProcess) (code : List Node) (first end : �
       tested = λ n to c is. absurd (omega (arith, c.1));
     }
 
-    -- a node is one of a sound process
+    -- a node is all_one of a sound process
     pub fits_node : (p : ℕ) (i : Node) → NodeOk p i → FitsProcessNode design proc p i
     fits_node p i h = fits_kind p i.kind i.line i.counts i.next h.0 h.1
 
@@ -199,26 +197,26 @@ module _ (b : Bound) (process : BoundProcess) (code : List Node) (first end : �
   IsLater p m = IsAfter (p + 1) m
 
   later_kind : (p : ℕ) (k : NodeKind) (line next : ℕ) → Flow false p k next → All (IsLater p) (successors (record { kind = k; line = line; counts = false; next = next }))
-  later_kind p (kind.Set n e) line next w = one (IsLater p) next (w.1 refl)
-  later_kind p (kind.Store x i e) line next w = one (IsLater p) next (w.1 refl)
+  later_kind p (kind.Set n e) line next w = all_one (IsLater p) next (w.1 refl)
+  later_kind p (kind.Store x i e) line next w = all_one (IsLater p) next (w.1 refl)
   later_kind p (kind.Test e other) line next w = two (IsLater p) next other (w.0.1 refl) (w.1.1 refl)
-  later_kind p kind.Goto line next w = one (IsLater p) next (w.1 refl)
-  later_kind p (kind.PrintText text) line next w = one (IsLater p) next (w.1 refl)
-  later_kind p (kind.PrintValue e) line next w = one (IsLater p) next (w.1 refl)
-  later_kind p kind.PrintTime line next w = one (IsLater p) next (w.1 refl)
-  later_kind p (kind.Write c e) line next w = one (IsLater p) next (w.1 refl)
+  later_kind p kind.Goto line next w = all_one (IsLater p) next (w.1 refl)
+  later_kind p (kind.PrintText text) line next w = all_one (IsLater p) next (w.1 refl)
+  later_kind p (kind.PrintValue e) line next w = all_one (IsLater p) next (w.1 refl)
+  later_kind p kind.PrintTime line next w = all_one (IsLater p) next (w.1 refl)
+  later_kind p (kind.Write c e) line next w = all_one (IsLater p) next (w.1 refl)
   later_kind p (kind.TestAvailable c other) line next w = two (IsLater p) next other (w.1 refl) (w.2.1 refl)
   later_kind p (kind.TestFree c other) line next w = two (IsLater p) next other (w.1 refl) (w.2.1 refl)
-  later_kind p (kind.Take c n) line next w = one (IsLater p) next (w.1 refl)
-  later_kind p (kind.Put c e) line next w = one (IsLater p) next (w.1 refl)
-  later_kind p (kind.Notify e t) line next w = one (IsLater p) next (w.1 refl)
-  later_kind p (kind.Cancel e) line next w = one (IsLater p) next (w.1 refl)
-  later_kind p kind.Stop line next w = one (IsLater p) next (w.1 refl)
-  later_kind p (kind.Trigger t) line next w = one (IsLater p) next (w.0.1 refl)
+  later_kind p (kind.Take c n) line next w = all_one (IsLater p) next (w.1 refl)
+  later_kind p (kind.Put c e) line next w = all_one (IsLater p) next (w.1 refl)
+  later_kind p (kind.Notify e t) line next w = all_one (IsLater p) next (w.1 refl)
+  later_kind p (kind.Cancel e) line next w = all_one (IsLater p) next (w.1 refl)
+  later_kind p kind.Stop line next w = all_one (IsLater p) next (w.1 refl)
+  later_kind p (kind.Trigger t) line next w = all_one (IsLater p) next (w.0.1 refl)
   later_kind p (kind.Wait t) line next w = All-nil (IsLater p)
   later_kind p kind.End line next w = All-nil (IsLater p)
 
-  -- an uncounted node leads on, or to one that counts
+  -- an uncounted node leads on, or to all_one that counts
   pub later : (p : ℕ) (i : Node) → NodeOk p i → i.counts ≡ false → (m : ℕ) → Contains (successors i) m → IsAfter (p + 1) m
   later p i h u m c =
       let w = subst (λ counts. Flow counts p i.kind i.next) u h.1 in

@@ -2,6 +2,7 @@
 use Rattle.std.proofs.Common.{◌≡◌, ℕ, zero, suc, ◌<◌, List, [], ◌∷◌, ◌++◌, length, Option, Some, None, refl, sym, subst, arith}
 use Rattle.std.specs.Prelude.{slice_get, All, Contains, IsSomeAnd}
 use Rattle.std.proofs.lemmas.Option.{get_or_from_slice_get, slice_get_within}
+use Rattle.std.proofs.lemmas.List.Elements.{Contains-append_right}
 use Rattle.ooo_bound.specs.declared.model.Bound.{Bound}
 use Rattle.ooo_bound.specs.declared.model.BoundFunction.{BoundFunction}
 use Rattle.ooo_bound.specs.declared.model.BoundProcess.{BoundProcess}
@@ -16,10 +17,6 @@ use Rattle.ooo_shapes.proofs.Places.{SimpleFound, SimplesFound, FunctionFound, C
 -- what stands at a place of a list each of which has it
 pub all_at : {X : Type 0} (P : X → Type 0) (xs : List X) (k : ℕ) (x : X) → All P xs → slice_get xs k ≡ Some x → P x
 all_at P xs k x all e = subst P (get_or_from_slice_get xs k x x e) (all k x (slice_get_within xs k x e))
-
-contains_after : (xs ys : List ℕ) (g : ℕ) → Contains ys g → Contains (xs ++ ys) g
-contains_after [] ys g c = c
-contains_after (x ∷ xs) ys g c = let r = contains_after xs ys g c in (suc r.0, omega (arith, r.1), r.2)
 
 some_of : {X : Type 0} (P : X → Type 0) (o : Option X) → IsSomeAnd o P → (x : X) × (o ≡ Some x)
 some_of P None h = absurd h
@@ -50,7 +47,7 @@ module _ (b : Bound) where
   found_simples k [] all each = tt
   found_simples k (x ∷ xs) all each = (
     found_simple k x.simple (calls_of xs) (all 0 x (omega arith)) each,
-    found_simples k xs (λ i d lt. all (suc i) d (omega (arith, lt))) (λ g c f e. each g (contains_after (simple_calls x.simple) (calls_of xs) g c) f e),
+    found_simples k xs (λ i d lt. all (suc i) d (omega (arith, lt))) (λ g c f e. each g (Contains-append_right (simple_calls x.simple) (calls_of xs) g c) f e),
   )
 
   module _ (ranked : AreRanked b.functions) (functions : All (FitsFunction b) b.functions) where

@@ -33,6 +33,5 @@ pub mod Doing
 pub mod Segments
 pub mod Blanks
 pub mod Pausing
-pub mod Every
 pub mod Evaluating
 pub mod Depending

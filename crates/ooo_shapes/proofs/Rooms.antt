@@ -1,6 +1,7 @@
 -- The nodes of statements without statements in them are sound where they are laid.
-use Rattle.std.proofs.Common.{◌≡◌, ℕ, suc, ◌+◌, ◌<◌, ◌≤◌, inl, List, [], ◌∷◌, ◌++◌, length, Bool, true, false, Option, Some, refl, sym, ap, ◌∙◌, subst, arith}
-use Rattle.std.specs.Prelude.{slice_get, All, IsSome}
+use Rattle.std.proofs.Common.{◌≡◌, ℕ, ◌+◌, ◌<◌, ◌≤◌, inl, List, [], ◌∷◌, length, Bool, true, false, Option, Some, refl, sym, ap, ◌∙◌, subst, arith}
+use Rattle.std.specs.Prelude.{slice_get, IsSome}
+use Rattle.std.specs.List.{AllByRecursion}
 use Rattle.ooo_value.specs.declared.bound.ProcessKind.TheVariants.{Method}
 use Rattle.ooo_value.specs.declared.kinds.Kind.{Kind}
 use Rattle.ooo_value.specs.declared.operators.Op.{Op}
@@ -73,23 +74,6 @@ pub item_begins : (t : Around) (x : BoundItem) → MayBegin (item_kind t x)
 item_begins t (item.Value e) = tt
 item_begins t (item.Text text) = tt
 item_begins t item.Time = tt
-
--- each of some things
-abbrev pub Each : {A : Type 0} → (A → Type 0) → List A → Type 0
-Each P [] = Unit {0}
-Each P (x ∷ xs) = P x × Each P xs
-
-pub each_left : {A : Type 0} (P : A → Type 0) (xs ys : List A) → Each P (xs ++ ys) → Each P xs
-each_left P [] ys h = tt
-each_left P (x ∷ xs) ys h = (h.0, each_left P xs ys h.1)
-
-pub each_right : {A : Type 0} (P : A → Type 0) (xs ys : List A) → Each P (xs ++ ys) → Each P ys
-each_right P [] ys h = h
-each_right P (x ∷ xs) ys h = each_right P xs ys h.1
-
-pub each_of : {A : Type 0} (P : A → Type 0) (xs : List A) → All P xs → Each P xs
-each_of P [] h = tt
-each_of P (x ∷ xs) h = (h 0 x (omega arith), each_of P xs (λ k d lt. h (suc k) d (omega (arith, lt))))
 
 module _ (b : Bound) (process : BoundProcess) (code : List Node) (first end : ℕ) (slots : List Kind) (firsts : KindsAt slots 0 first_kinds) where
   abbrev In : ℕ → Type 0
@@ -268,7 +252,7 @@ module _ (b : Bound) (process : BoundProcess) (code : List Node) (first end : �
     items_after [] size at next q room high = after_more b process 0 code q (at + size) next (omega (arith, high)) room.after
     items_after (x ∷ xs) size at next q room high = subst (λ r. Later q r) (sym (begins_some (length (x ∷ xs)) q next (omega arith))) (inl (omega arith))
 
-    pub items_ok : (xs : List BoundItem) (line size at next q : ℕ) → Each (FitsItem b) xs → Within (items_widths xs) t.widths → Room size at next → at ≤ q → q + length xs ≤ at + size → Has q (item_nodes t xs line q next) → Ok q (item_nodes t xs line q next)
+    pub items_ok : (xs : List BoundItem) (line size at next q : ℕ) → AllByRecursion (FitsItem b) xs → Within (items_widths xs) t.widths → Room size at next → at ≤ q → q + length xs ≤ at + size → Has q (item_nodes t xs line q next) → Ok q (item_nodes t xs line q next)
     items_ok [] line size at next q f w room low high has = tt
     items_ok (x ∷ xs) line size at next q f w room low high has =
         let inside = items_in xs line size at next (q + 1) room (omega (arith, low)) (omega (arith, high)) has.1 in

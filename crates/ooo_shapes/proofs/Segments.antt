@@ -2,6 +2,7 @@
 use Rattle.std.proofs.Common.{◌≡◌, ℕ, zero, suc, inl, ⊎_elim, List, [], ◌∷◌, length, Bool, true, Option, Some, None, refl, sym, ap, ◌∙◌, subst, arith}
 use Rattle.std.specs.Prelude.{slice_get, Contains}
 use Rattle.std.specs.List.{list_any}
+use Rattle.ooo_lemmas.proofs.Contained.{not_in_none, one_is}
 use Rattle.ooo_code.specs.declared.design.Proc.{Proc}
 use Rattle.ooo_code.specs.declared.node.Node.{Node}
 use Rattle.ooo_code.specs.declared.segment.SegmentEntry.{SegmentEntry}
@@ -26,7 +27,7 @@ use Rattle.ooo_shapes.proofs.Start.{slots_of, first_from, all_nodes, end_of, tot
 use Rattle.ooo_shapes.proofs.Begun.{IsReady, begun}
 use Rattle.ooo_shapes.proofs.Soundness.{some_touch, touch_in, proc_of}
 use Rattle.ooo_shapes.proofs.Touched.{same_touch, touch_test}
-use Rattle.ooo_shapes.proofs.Trees.{none_of, one_of, in_one, WaitsAt, StandsAt, Block, OutReached, PauseReached, TriggerReached, trigger_reached, part_names, TouchReached, reach_on, out_reached, pause_reached, touch_reached, Part, part_of, OutAt, part_leads, part_touches, part_waits}
+use Rattle.ooo_shapes.proofs.Trees.{in_one, WaitsAt, StandsAt, Block, OutReached, PauseReached, TriggerReached, trigger_reached, part_names, TouchReached, reach_on, out_reached, pause_reached, touch_reached, Part, part_of, OutAt, part_leads, part_touches, part_waits}
 use Rattle.ooo_shapes.proofs.Blocks.{frame_in, end_block, break_block, continue_block, return_block, leave_block, putting_block, check_block, choose_block}
 use Rattle.ooo_shapes.proofs.Doing.{do_block}
 
@@ -128,11 +129,11 @@ module _ (b : Bound) (process : BoundProcess) (total : ℕ) (code : List Node) w
   way_at : (t : Around) (items y : List Item) (pc : ℕ) → At b process total code t [] items pc → Frame total t no_values [] → Contains (goes_to b items) y → OutReached b process total code pc y
   way_at t (Begin l ∷ rest) y pc p f c =
       let s = begin_stands l t rest pc p f in
-      record { at = pc; reached = here; stands = subst (λ y. Stood y pc) (one_of _ y c) s.1 }
+      record { at = pc; reached = here; stands = subst (λ y. Stood y pc) (one_is _ y c) s.1 }
   way_at t (Again l ∷ rest) y pc p f c =
       let s = turn_stands l.after l refl p.2 rest p.0 p.1 pc p.3 p.5 (frame_out t p.2 p.0 pc p.4 f) in
-      record { at = pc; reached = here; stands = subst (λ y. Stood y pc) (one_of _ y c) s.1 }
-  way_at t [] y pc p f c = absurd (none_of y c)
+      record { at = pc; reached = here; stands = subst (λ y. Stood y pc) (one_is _ y c) s.1 }
+  way_at t [] y pc p f c = absurd (not_in_none y c)
   way_at t (i ∷ rest) y pc p f c = block_way (i ∷ rest) y pc (head_block t (i ∷ rest) pc tt p f) c
 
   -- where statements come to nodes lead
@@ -174,17 +175,17 @@ module _ (b : Bound) (process : BoundProcess) (total : ℕ) (code : List Node) w
 
   -- as an item waits its nodes wait
   item_pause : (t : Around) (items : List Item) (pc : ℕ) (pause : Pause) → At b process total code t [] items pc → Frame total t no_values [] → Contains (first_pauses b process items) pause → PauseReached b process total code pc pause
-  item_pause t [] pc pause p f h = absurd (none_of pause h)
-  item_pause t (Begin l ∷ rest) pc pause p f h = absurd (none_of pause h)
-  item_pause t (Again l ∷ rest) pc pause p f h = absurd (none_of pause h)
+  item_pause t [] pc pause p f h = absurd (not_in_none pause h)
+  item_pause t (Begin l ∷ rest) pc pause p f h = absurd (not_in_none pause h)
+  item_pause t (Again l ∷ rest) pc pause p f h = absurd (not_in_none pause h)
   item_pause t (i ∷ rest) pc pause p f h =
       let x = head_block t (i ∷ rest) pc tt p f in pause_reached b process total code x.tree pc pc pause here x.rooted (x.pauses pause h)
 
   -- the events that an item names in a trigger its nodes name
   item_trigger : (t : Around) (items : List Item) (pc e : ℕ) → At b process total code t [] items pc → Frame total t no_values [] → Contains (first_triggers process items) e → TriggerReached b process total code pc e
-  item_trigger t [] pc e p f h = absurd (none_of e h)
-  item_trigger t (Begin l ∷ rest) pc e p f h = absurd (none_of e h)
-  item_trigger t (Again l ∷ rest) pc e p f h = absurd (none_of e h)
+  item_trigger t [] pc e p f h = absurd (not_in_none e h)
+  item_trigger t (Begin l ∷ rest) pc e p f h = absurd (not_in_none e h)
+  item_trigger t (Again l ∷ rest) pc e p f h = absurd (not_in_none e h)
   item_trigger t (i ∷ rest) pc e p f h =
       let x = head_block t (i ∷ rest) pc tt p f in trigger_reached b process total code x.tree pc pc e here x.rooted (x.triggers e h)
 

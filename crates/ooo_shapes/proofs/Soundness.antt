@@ -1,10 +1,12 @@
 -- The design of a sound model is sound.
 use Rattle.std.proofs.Common.{◌≡◌, ℕ, zero, suc, ◌+◌, ◌<◌, ◌≤◌, inl, inr, ⊎_elim, List, [], ◌∷◌, ◌++◌, length, Bool, true, false, Option, Some, None, refl, sym, ap, ◌∙◌, subst, arith, length-append, get_or}
-use Rattle.std.specs.Prelude.{slice_get, All, Contains, IfSome, is_some, option_map, ◌==◌, ◌||◌}
+use Rattle.std.specs.Prelude.{slice_get, Contains, IfSome, is_some, option_map, ◌==◌, ◌||◌}
 use Rattle.std.specs.List.{list_any}
-use Rattle.std.proofs.lemmas.Bool.{cases_lt, eqb-true, eq-eqb, false≢true}
-use Rattle.std.proofs.lemmas.Option.{slice_get-get_or, slice_get_within}
+use Rattle.std.proofs.lemmas.Bool.{cases_lt, eqb-true, eq-eqb, false≢true, or_left, or_right}
+use Rattle.std.proofs.lemmas.Option.{slice_get_within}
 use Rattle.std.proofs.lemmas.List.Folds.{list_any_at}
+use Rattle.std.proofs.lemmas.List.Elements.{recursion_from_All}
+use Rattle.ooo_lemmas.proofs.Placed.{all_from}
 use Rattle.ooo_value.specs.declared.kinds.Kind.{Kind}
 use Rattle.ooo_value.specs.declared.kinds.Kind.TheVariants as kinds
 use Rattle.ooo_code.specs.declared.design.Proc.{Proc}
@@ -36,26 +38,15 @@ use Rattle.ooo_shapes.proofs.Holders.{process_alike}
 use Rattle.ooo_shapes.proofs.Touching.{nodes_some}
 use Rattle.ooo_shapes.proofs.Typing.{KindsAt, kinds_left, kinds_right}
 use Rattle.ooo_shapes.proofs.Flow.{Enter, enters, NodeOk, AllOk, all_both, fits_node, later}
-use Rattle.ooo_shapes.proofs.Rooms.{each_of, Room}
+use Rattle.ooo_shapes.proofs.Rooms.{Room}
 use Rattle.ooo_shapes.proofs.Sturdy.{Fine, body_fine, each_ok}
 use Rattle.ooo_shapes.proofs.Ranks.{counts_so, rests_so, Leads, ranked}
 
 -- ---- lists
 
-all_from : {A : Type 0} (P : A → Type 0) (xs : List A) → ((k : ℕ) (x : A) → slice_get xs k ≡ Some x → P x) → All P xs
-all_from P xs h k d lt = h k (get_or xs k d) (slice_get-get_or xs k d lt)
-
 if_some : {A : Type 0} (P : A → Type 0) (o : Option A) → ((x : A) → o ≡ Some x → P x) → IfSome o P
 if_some P None h = tt
 if_some P (Some x) h = h x refl
-
-or_left : (x y : Bool) → x ≡ true → (x || y) ≡ true
-or_left true y h = refl
-or_left false y h = cc
-
-or_right : (x y : Bool) → y ≡ true → (x || y) ≡ true
-or_right true y h = refl
-or_right false y h = h
 
 -- ---- the place of each process
 
@@ -145,7 +136,7 @@ module _ (b : Bound) (sound : IsSound b) (p : ℕ) (process : BoundProcess) (is 
   fine =
       body_fine b process nodes first end slots firsts fits.events sound.functions (length b.functions) process.body
       (each_ok b process nodes first end slots firsts fits.events sound.functions (length b.functions) (simples_in process.body) fits.body.simples (process_found b sound.ranked sound.functions process fits) fits.waits)
-      (each_of (FitsExpr b) (values_in process.body) fits.body.values)
+      (recursion_from_All (FitsExpr b) (values_in process.body) fits.body.values)
 
   has_last : HasAt b process 0 nodes at_end last
   has_last = subst (λ n. HasAt b process 0 nodes (first + n) last) (fine.full (around_process (process_widths process) at_end) (free_of process) first at_end) (has_back b process 0 nodes first body last has)

@@ -1,6 +1,9 @@
 -- The nodes of every statement are sound where they are laid.
 use Rattle.std.proofs.Common.{◌≡◌, ℕ, zero, suc, ◌+◌, ◌<◌, ◌≤◌, ◌⊎◌, inl, inr, List, [], ◌∷◌, ◌++◌, length, map, Bool, true, false, Option, Some, None, refl, sym, ap, ◌∙◌, subst, arith, length-append}
 use Rattle.std.specs.Prelude.{slice_get, All, IsSome, IsSomeAnd, min, pos}
+use Rattle.std.proofs.lemmas.List.Elements.{recursion_from_All}
+use Rattle.std.specs.List.{AllByRecursion}
+use Rattle.ooo_lemmas.proofs.Each.{first_part, then_part}
 use Rattle.ooo_value.specs.declared.bound.ProcessKind.TheVariants.{Method}
 use Rattle.ooo_value.specs.declared.kinds.Kind.{Kind}
 use Rattle.ooo_value.specs.declared.values.Value.TheVariants as value
@@ -44,7 +47,7 @@ use Rattle.ooo_shapes.proofs.Values.{lowered_at}
 use Rattle.ooo_shapes.proofs.Typing.{kind_of-value_of, KindsAt, kinds_left, kinds_right, kinds_first, local_kind, kind_so, kind_Constant, converted_kind, kind_some}
 use Rattle.ooo_shapes.proofs.Naming.{some_of, Named, Typed_so, set_named, slot_typed, constant_typed, put_named, time_named, wait_named, wait_static}
 use Rattle.ooo_shapes.proofs.Flow.{Begins, begins_both, Enter, enters, Way, Flow, AllOk, all_both}
-use Rattle.ooo_shapes.proofs.Rooms.{put_begins, update_begins, leave_begins, aim_begins, Each, each_left, each_right, each_of, Room, ahead, from_counted, put_flow, leave_flow, read_ok, write_ok, nb_read_ok, nb_write_ok, update_ok, items_in, items_ok}
+use Rattle.ooo_shapes.proofs.Rooms.{put_begins, update_begins, leave_begins, aim_begins, Room, ahead, from_counted, put_flow, leave_flow, read_ok, write_ok, nb_read_ok, nb_write_ok, update_ok, items_in, items_ok}
 
 module _ (b : Bound) (process : BoundProcess) (code : List Node) (first end : ℕ) (slots : List Kind) (firsts : KindsAt slots 0 first_kinds) (own_events : All (λ e. e < length b.events) process.sensitive) (functions : All (FitsFunction b) b.functions) where
   abbrev In : ℕ → Type 0
@@ -165,7 +168,7 @@ module _ (b : Bound) (process : BoundProcess) (code : List Node) (first end : �
   arguments_in t u line n (k ∷ ks) [] q has low high e = let m : q + min (suc (length ks)) 0 ≡ q = omega arith in subst In m e
   arguments_in t u line n (k ∷ ks) (x ∷ es) q has low high e = stands_in q _ has.0 low (omega (arith, high)) tt
 
-  arguments_ok : (t u : Around) (line n : ℕ) (ks : List Kind) (es : List BoundExpr) (q : ℕ) → KindsAt slots t.base (kinds_of t.widths) → KindsAt slots u.base (kinds_of u.widths) → Within (exprs_widths es) t.widths → Within (params_widths n ks) u.widths → Each (FitsExpr b) es → Has q (argument_nodes t u line n ks es q) → first ≤ q → q + min (length ks) (length es) ≤ end → In (q + min (length ks) (length es)) → Ok q (argument_nodes t u line n ks es q)
+  arguments_ok : (t u : Around) (line n : ℕ) (ks : List Kind) (es : List BoundExpr) (q : ℕ) → KindsAt slots t.base (kinds_of t.widths) → KindsAt slots u.base (kinds_of u.widths) → Within (exprs_widths es) t.widths → Within (params_widths n ks) u.widths → AllByRecursion (FitsExpr b) es → Has q (argument_nodes t u line n ks es q) → first ≤ q → q + min (length ks) (length es) ≤ end → In (q + min (length ks) (length es)) → Ok q (argument_nodes t u line n ks es q)
   arguments_ok t u line n [] [] q lt lu w v f has low high e = tt
   arguments_ok t u line n [] (x ∷ es) q lt lu w v f has low high e = tt
   arguments_ok t u line n (k ∷ ks) [] q lt lu w v f has low high e = tt
@@ -231,7 +234,7 @@ module _ (b : Bound) (process : BoundProcess) (code : List Node) (first end : �
         let arguments_first = arguments_in t u line 0 f.params args (at + 1 + zeros) has_arguments (omega (arith, low)) (omega (arith, high)) body_in in
         let zeros_first = zeros_in line free ks (at + 1) has_zeros (omega (arith, low)) (omega (arith, high)) arguments_first in
         let ok_zeros = zeros_ok line free ks (at + 1) own has_zeros (omega (arith, low)) (omega (arith, high)) arguments_first in
-        let ok_arguments = arguments_ok t u line 0 f.params args (at + 1 + zeros) r.around.locals locals_u (within_right (target_widths into) (exprs_widths args) t.widths r.within) (within_left (params_widths 0 f.params) (body_widths f.body) (function_widths f) widths_u) (each_of (FitsExpr b) args fc.1) has_arguments (omega (arith, low)) (omega (arith, high)) body_in in
+        let ok_arguments = arguments_ok t u line 0 f.params args (at + 1 + zeros) r.around.locals locals_u (within_right (target_widths into) (exprs_widths args) t.widths r.within) (within_left (params_widths 0 f.params) (body_widths f.body) (function_widths f) widths_u) (recursion_from_All (FitsExpr b) args fc.1) has_arguments (omega (arith, low)) (omega (arith, high)) body_in in
         let ok_body = g.ok u (free + zeros) body_at leave (record { around = around_u; within = within_right (params_widths 0 f.params) (body_widths f.body) (function_widths f) widths_u; room = room_body; has = has_body; calls = kinds_right slots free ks body.slots r.calls }) in
         let way_last : Way_so false leave next = (r.room.next_in, λ e. after_more b process 0 code (leave + 1) (at + (1 + (zeros + (given + (body.size + 1))))) next (omega arith) r.room.after) in
         let ok_last : Ok leave last = ((leave_named t into f.result free next r.around.locals ft (within_left (target_widths into) (exprs_widths args) t.widths r.within) result, leave_flow b process code first end slots firsts t into f.result free false leave next way_last), tt) in
@@ -308,7 +311,7 @@ module _ (b : Bound) (process : BoundProcess) (code : List Node) (first end : �
     print_fine line items o =
         several (1 + length items) (λ t at next. counted kind.Goto line (begins (length items) (at + 1) next) ∷ item_nodes t items line (at + 1) next) (items_widths items) (full_of depth line (simple.Print items)) (λ t at next. tt) (λ t at next s w room has.
         let inside = items_in b process code first end slots firsts t s.locals items line (1 + length items) at next (at + 1) room (omega arith) (omega arith) has.1 in
-        let rest = items_ok b process code first end slots firsts t s.locals items line (1 + length items) at next (at + 1) (each_of (FitsItem b) items o.fits) w room (omega arith) (omega arith) has.1 in
+        let rest = items_ok b process code first end slots firsts t s.locals items line (1 + length items) at next (at + 1) (recursion_from_All (FitsItem b) items o.fits) w room (omega arith) (omega arith) has.1 in
         ((tt, from_counted b process code first end slots firsts at (begins (length items) (at + 1) next) inside), rest))
 
     pub simple_fine : (line : ℕ) (x : BoundSimple) → SimpleOk depth (record { line = line; simple = x }) → Fine (simple_shape h kin line x) (simple_widths x)
@@ -335,7 +338,7 @@ module _ (b : Bound) (process : BoundProcess) (code : List Node) (first end : �
     simple_fine line simple.Stop o = single line (λ t next. kind.Stop) nothing (λ t next. tt) (λ t at next s w room. (tt, way_on at next room))
     simple_fine line (simple.Print items) o = print_fine line items o
 
-    simples_fine : (xs : List LinedSimple) → Each (SimpleOk depth) xs → Fine (lined_shapes h kin xs) (simples_widths xs)
+    simples_fine : (xs : List LinedSimple) → AllByRecursion (SimpleOk depth) xs → Fine (lined_shapes h kin xs) (simples_widths xs)
     simples_fine [] f = fine_empty nothing
     simples_fine (x ∷ xs) f = fine_then (lined_shape h kin x) (lined_shapes h kin xs) (simple_widths x.simple) (simples_widths xs) (simple_fine x.line x.simple f.0) (simples_fine xs f.1)
 
@@ -368,7 +371,7 @@ module _ (b : Bound) (process : BoundProcess) (code : List Node) (first end : �
     }
 
     -- the test of a loop has a kind
-    test_typed : (t : Around) (e : Option BoundExpr) → KindsAt slots t.base (kinds_of t.widths) → Each (FitsExpr b) (list_of e) → Within (option_widths e) t.widths → IsSome (kind_so names (lowered t (test_or_true e)))
+    test_typed : (t : Around) (e : Option BoundExpr) → KindsAt slots t.base (kinds_of t.widths) → AllByRecursion (FitsExpr b) (list_of e) → Within (option_widths e) t.widths → IsSome (kind_so names (lowered t (test_or_true e)))
     test_typed t None l f w =
         let e : lowered t (bound.Constant (value.Bool true)) ≡ node.Constant (value.Bool true) = ap (lowered t) (sym (bound.rolls-Constant (value.Bool true))) ∙ lowered_at t (expr_layer.Constant (value.Bool true)) in
         subst (λ e. IsSome (kind_so names e)) (sym e) (constant_typed b process slots firsts (value.Bool true))
@@ -384,7 +387,7 @@ module _ (b : Bound) (process : BoundProcess) (code : List Node) (first end : �
     lead_begins None t line free at = tt
     lead_begins (Some x) t line free at = tt
 
-    lead_fine : (after : Option LinedSimple) (t : Around) (line free at : ℕ) → Surround t → Within (after_widths after) t.widths → Each (SimpleOk depth) (list_of after) → Has at (lead_nodes (after_shape h kin after) t line free at) → KindsAt slots free (lead_slots (after_shape h kin after)) → first ≤ at → at + lead_size (after_shape h kin after) ≤ end → In (at + lead_size (after_shape h kin after)) → Counts b process 0 code (at + lead_size (after_shape h kin after)) → LeadFine after t line free at
+    lead_fine : (after : Option LinedSimple) (t : Around) (line free at : ℕ) → Surround t → Within (after_widths after) t.widths → AllByRecursion (SimpleOk depth) (list_of after) → Has at (lead_nodes (after_shape h kin after) t line free at) → KindsAt slots free (lead_slots (after_shape h kin after)) → first ≤ at → at + lead_size (after_shape h kin after) ≤ end → In (at + lead_size (after_shape h kin after)) → Counts b process 0 code (at + lead_size (after_shape h kin after)) → LeadFine after t line free at
     lead_fine None t line free at s w f has kinds low high test_in c =
         let e : at + 0 ≡ at = omega arith in
         record { again_in = subst In e test_in; back = inl (subst (λ q. Counts b process 0 code q) e c); ok = tt }
@@ -403,7 +406,7 @@ module _ (b : Bound) (process : BoundProcess) (code : List Node) (first end : �
         }
 
     -- a loop that begins with its test
-    loop_fine : (line : ℕ) (e : Option BoundExpr) (after : Option LinedSimple) (body : Shape) (w v : Widths) → Each (FitsExpr b) (list_of e) → Each (SimpleOk depth) (list_of after) → Fine body v → ((t : Widths) → Within w t → Within (option_widths e) t) → ((t : Widths) → Within w t → Within (after_widths after) t) → ((t : Widths) → Within w t → Within v t) → Fine (loop_shape line (test_or_true e) (after_shape h kin after) body) w
+    loop_fine : (line : ℕ) (e : Option BoundExpr) (after : Option LinedSimple) (body : Shape) (w v : Widths) → AllByRecursion (FitsExpr b) (list_of e) → AllByRecursion (SimpleOk depth) (list_of after) → Fine body v → ((t : Widths) → Within w t → Within (option_widths e) t) → ((t : Widths) → Within w t → Within (after_widths after) t) → ((t : Widths) → Within w t → Within v t) → Fine (loop_shape line (test_or_true e) (after_shape h kin after) body) w
     loop_fine line e after body w v fe fa g we wa wv =
         let s = after_shape h kin after in
         let fc = full_callees b process 0 code [] depth in
@@ -498,7 +501,7 @@ module _ (b : Bound) (process : BoundProcess) (code : List Node) (first end : �
         let way = from_counted b process code first end slots firsts at t.return_to s.return_in in (kind_some b slots t s.locals e w f, (way, way))
     return_by_ok t at e (Some k) s result w f = (set_named b process slots firsts t.result_slot k (converted k (lowered t e)) result (converted_kind names k (lowered t e) (kind_some b slots t s.locals e w f)), from_counted b process code first end slots firsts at t.return_to s.return_in)
 
-    return_ok : (t : Around) (at : ℕ) (e : Option BoundExpr) → Surround t → Within (option_widths e) t.widths → Each (FitsExpr b) (list_of e) → Named b process slots firsts (return_kind t e) × Flow_so at (return_kind t e) t.return_to
+    return_ok : (t : Around) (at : ℕ) (e : Option BoundExpr) → Surround t → Within (option_widths e) t.widths → AllByRecursion (FitsExpr b) (list_of e) → Named b process slots firsts (return_kind t e) × Flow_so at (return_kind t e) t.return_to
     return_ok t at None s w f = (tt, from_counted b process code first end slots firsts at t.return_to s.return_in)
     return_ok t at (Some e) s w f = return_by_ok t at e t.result s s.result w f.0
 
@@ -508,7 +511,7 @@ module _ (b : Bound) (process : BoundProcess) (code : List Node) (first end : �
     shape s = shape_of h kin s
 
     abbrev P : BoundStat → Type 0
-    P s = Each (SimpleOk depth) (simples_of s) → Each (FitsExpr b) (values_of s) → Fine (shape s) (stat_widths s)
+    P s = AllByRecursion (SimpleOk depth) (simples_of s) → AllByRecursion (FitsExpr b) (values_of s) → Fine (shape s) (stat_widths s)
 
     shape_at : (x : BoundStat-F BoundStat) → shape (roll-BoundStat x) ≡ shape_step h kin (map-BoundStat BoundStat Shape shape x)
     unfolding shape_of
@@ -526,11 +529,11 @@ module _ (b : Bound) (process : BoundProcess) (code : List Node) (first end : �
     unfolding values_of
     values_at x = fold-roll-BoundStat (List BoundExpr) values_step x
 
-    by_layer : (x : BoundStat-F BoundStat) → (Each (SimpleOk depth) (simples_step (map-BoundStat BoundStat (List LinedSimple) simples_of x)) → Each (FitsExpr b) (values_step (map-BoundStat BoundStat (List BoundExpr) values_of x)) → Fine (shape_step h kin (map-BoundStat BoundStat Shape shape x)) (stat_step (map-BoundStat BoundStat Widths stat_widths x))) → P (roll-BoundStat x)
+    by_layer : (x : BoundStat-F BoundStat) → (AllByRecursion (SimpleOk depth) (simples_step (map-BoundStat BoundStat (List LinedSimple) simples_of x)) → AllByRecursion (FitsExpr b) (values_step (map-BoundStat BoundStat (List BoundExpr) values_of x)) → Fine (shape_step h kin (map-BoundStat BoundStat Shape shape x)) (stat_step (map-BoundStat BoundStat Widths stat_widths x))) → P (roll-BoundStat x)
     by_layer x g ss vs =
         subst (λ y. Fine y (stat_widths (roll-BoundStat x))) (sym (shape_at x))
         (subst (λ w. Fine (shape_step h kin (map-BoundStat BoundStat Shape shape x)) w) (sym (widths_at x))
-        (g (subst (Each (SimpleOk depth)) (simples_at x) ss) (subst (Each (FitsExpr b)) (values_at x) vs)))
+        (g (subst (AllByRecursion (SimpleOk depth)) (simples_at x) ss) (subst (AllByRecursion (FitsExpr b)) (values_at x) vs)))
 
     abbrev Shown : Type 0
     Shown = (s : BoundStat) × P s
@@ -539,22 +542,22 @@ module _ (b : Bound) (process : BoundProcess) (code : List Node) (first end : �
     stat_in p = p.0
 
     -- the parts of a block
-    all_fine : (ys : List Shown) → Each (SimpleOk depth) (joined (map simples_of (map stat_in ys))) → Each (FitsExpr b) (joined (map values_of (map stat_in ys))) → Fine (all_shapes (map shape (map stat_in ys))) (all_widths (map stat_widths (map stat_in ys)))
+    all_fine : (ys : List Shown) → AllByRecursion (SimpleOk depth) (joined (map simples_of (map stat_in ys))) → AllByRecursion (FitsExpr b) (joined (map values_of (map stat_in ys))) → Fine (all_shapes (map shape (map stat_in ys))) (all_widths (map stat_widths (map stat_in ys)))
     all_fine [] ss vs = fine_empty nothing
     all_fine (y ∷ ys) ss vs =
         let rest_simples = joined (map simples_of (map stat_in ys)) in
         let rest_values = joined (map values_of (map stat_in ys)) in
         fine_then (shape y.0) (all_shapes (map shape (map stat_in ys))) (stat_widths y.0) (all_widths (map stat_widths (map stat_in ys)))
-        (y.1 (each_left (SimpleOk depth) (simples_of y.0) rest_simples ss) (each_left (FitsExpr b) (values_of y.0) rest_values vs))
-        (all_fine ys (each_right (SimpleOk depth) (simples_of y.0) rest_simples ss) (each_right (FitsExpr b) (values_of y.0) rest_values vs))
+        (y.1 (first_part (SimpleOk depth) (simples_of y.0) rest_simples ss) (first_part (FitsExpr b) (values_of y.0) rest_values vs))
+        (all_fine ys (then_part (SimpleOk depth) (simples_of y.0) rest_simples ss) (then_part (FitsExpr b) (values_of y.0) rest_values vs))
 
     choice_fine : (line : ℕ) (e : BoundExpr) (x : Shown) (y : Option Shown) → P (roll-BoundStat (map-BoundStat Shown BoundStat stat_in (layer.If line e x y)))
     choice_fine line e x None =
         by_layer (layer.If line e x.0 None) (λ ss vs.
-        if_fine line e (shape x.0) empty (stat_widths x.0) nothing vs.0 (x.1 (each_left (SimpleOk depth) (simples_of x.0) [] ss) (each_left (FitsExpr b) (values_of x.0) [] vs.1)) (fine_empty nothing))
+        if_fine line e (shape x.0) empty (stat_widths x.0) nothing vs.0 (x.1 (first_part (SimpleOk depth) (simples_of x.0) [] ss) (first_part (FitsExpr b) (values_of x.0) [] vs.1)) (fine_empty nothing))
     choice_fine line e x (Some y) =
         by_layer (layer.If line e x.0 (Some y.0)) (λ ss vs.
-        if_fine line e (shape x.0) (shape y.0) (stat_widths x.0) (stat_widths y.0) vs.0 (x.1 (each_left (SimpleOk depth) (simples_of x.0) (simples_of y.0) ss) (each_left (FitsExpr b) (values_of x.0) (values_of y.0) vs.1)) (y.1 (each_right (SimpleOk depth) (simples_of x.0) (simples_of y.0) ss) (each_right (FitsExpr b) (values_of x.0) (values_of y.0) vs.1)))
+        if_fine line e (shape x.0) (shape y.0) (stat_widths x.0) (stat_widths y.0) vs.0 (x.1 (first_part (SimpleOk depth) (simples_of x.0) (simples_of y.0) ss) (first_part (FitsExpr b) (values_of x.0) (values_of y.0) vs.1)) (y.1 (then_part (SimpleOk depth) (simples_of x.0) (simples_of y.0) ss) (then_part (FitsExpr b) (values_of x.0) (values_of y.0) vs.1)))
 
     while_fine : (line : ℕ) (e : BoundExpr) (x : Shown) → P (roll-BoundStat (map-BoundStat Shown BoundStat stat_in (layer.While line e x)))
     while_fine line e x =
@@ -569,17 +572,17 @@ module _ (b : Bound) (process : BoundProcess) (code : List Node) (first end : �
         let v = stat_widths x.0 in
         let rest = both (after_widths after) v in
         let w = both (option_widths e) rest in
-        let front = each_left (SimpleOk depth) (begin ++ list_of after) (simples_of x.0) ss in
-        let body = x.1 (each_right (SimpleOk depth) (begin ++ list_of after) (simples_of x.0) ss) (each_right (FitsExpr b) (list_of e) (values_of x.0) vs) in
-        fine_then (lined_shapes h kin begin) (loop_shape line (test_or_true e) (after_shape h kin after) (shape x.0)) (simples_widths begin) w (simples_fine begin (each_left (SimpleOk depth) begin (list_of after) front))
-        (loop_fine line e after (shape x.0) w v (each_left (FitsExpr b) (list_of e) (values_of x.0) vs) (each_right (SimpleOk depth) begin (list_of after) front) body (λ t i. within_left (option_widths e) rest t i) (λ t i. within_left (after_widths after) v t (within_right (option_widths e) rest t i)) (λ t i. within_right (after_widths after) v t (within_right (option_widths e) rest t i))))
+        let front = first_part (SimpleOk depth) (begin ++ list_of after) (simples_of x.0) ss in
+        let body = x.1 (then_part (SimpleOk depth) (begin ++ list_of after) (simples_of x.0) ss) (then_part (FitsExpr b) (list_of e) (values_of x.0) vs) in
+        fine_then (lined_shapes h kin begin) (loop_shape line (test_or_true e) (after_shape h kin after) (shape x.0)) (simples_widths begin) w (simples_fine begin (first_part (SimpleOk depth) begin (list_of after) front))
+        (loop_fine line e after (shape x.0) w v (first_part (FitsExpr b) (list_of e) (values_of x.0) vs) (then_part (SimpleOk depth) begin (list_of after) front) body (λ t i. within_left (option_widths e) rest t i) (λ t i. within_left (after_widths after) v t (within_right (option_widths e) rest t i)) (λ t i. within_right (after_widths after) v t (within_right (option_widths e) rest t i))))
 
     layer_fine : (y : BoundStat-F Shown) → P (roll-BoundStat (map-BoundStat Shown BoundStat stat_in y))
     layer_fine (layer.Block parts) = by_layer (layer.Block (map stat_in parts)) (all_fine parts)
     layer_fine (layer.Simple x) = by_layer (layer.Simple x) (λ ss vs. simple_fine x.line x.simple ss.0)
     layer_fine (layer.If line e x y) = choice_fine line e x y
     layer_fine (layer.While line e x) = while_fine line e x
-    layer_fine (layer.Do line x e) = by_layer (layer.Do line x.0 e) (λ ss vs. do_fine line e (shape x.0) (stat_widths x.0) (each_right (FitsExpr b) (values_of x.0) (e ∷ []) vs).0 (x.1 ss (each_left (FitsExpr b) (values_of x.0) (e ∷ []) vs)))
+    layer_fine (layer.Do line x e) = by_layer (layer.Do line x.0 e) (λ ss vs. do_fine line e (shape x.0) (stat_widths x.0) (then_part (FitsExpr b) (values_of x.0) (e ∷ []) vs).0 (x.1 ss (first_part (FitsExpr b) (values_of x.0) (e ∷ []) vs)))
     layer_fine (layer.For line begin e after x) = for_fine line begin e after x
     layer_fine (layer.Break line) = by_layer (layer.Break line) (λ ss vs. jump_fine line (λ t. kind.Goto) (λ t. t.break_to) nothing (λ t. tt) (λ t at s w. (tt, from_counted b process code first end slots firsts at t.break_to s.break_in)))
     layer_fine (layer.Continue line) = by_layer (layer.Continue line) (λ ss vs. jump_fine line (λ t. kind.Goto) (λ t. t.continue_to) nothing (λ t. tt) (λ t at s w. (tt, from_counted b process code first end slots firsts at t.continue_to s.continue_in)))
@@ -588,14 +591,14 @@ module _ (b : Bound) (process : BoundProcess) (code : List Node) (first end : �
     stat_fine : (s : BoundStat) → P s
     stat_fine = ind-BoundStat P (λ x y e. subst (λ x. P (roll-BoundStat x)) e (layer_fine y))
 
-    body_fine_with : (ss : List BoundStat) → Each (SimpleOk depth) (simples_in ss) → Each (FitsExpr b) (values_in ss) → Fine (body_shape h kin ss) (body_widths ss)
+    body_fine_with : (ss : List BoundStat) → AllByRecursion (SimpleOk depth) (simples_in ss) → AllByRecursion (FitsExpr b) (values_in ss) → Fine (body_shape h kin ss) (body_widths ss)
     body_fine_with [] f g = fine_empty nothing
     body_fine_with (s ∷ ss) f g =
-        fine_then (shape s) (body_shape h kin ss) (stat_widths s) (body_widths ss) (stat_fine s (each_left (SimpleOk depth) (simples_of s) (simples_in ss) f) (each_left (FitsExpr b) (values_of s) (values_in ss) g))
-        (body_fine_with ss (each_right (SimpleOk depth) (simples_of s) (simples_in ss) f) (each_right (FitsExpr b) (values_of s) (values_in ss) g))
+        fine_then (shape s) (body_shape h kin ss) (stat_widths s) (body_widths ss) (stat_fine s (first_part (SimpleOk depth) (simples_of s) (simples_in ss) f) (first_part (FitsExpr b) (values_of s) (values_in ss) g))
+        (body_fine_with ss (then_part (SimpleOk depth) (simples_of s) (simples_in ss) f) (then_part (FitsExpr b) (values_of s) (values_in ss) g))
 
   -- each statement of a body is sound
-  pub each_ok : (depth : ℕ) (xs : List LinedSimple) → All (λ x. FitsSimple b x.simple) xs → SimplesFound (CallFound b.functions depth) xs → (process.kind ≡ Method → All (λ x. may_wait x.simple ≡ false) xs) → Each (SimpleOk depth) xs
+  pub each_ok : (depth : ℕ) (xs : List LinedSimple) → All (λ x. FitsSimple b x.simple) xs → SimplesFound (CallFound b.functions depth) xs → (process.kind ≡ Method → All (λ x. may_wait x.simple ≡ false) xs) → AllByRecursion (SimpleOk depth) xs
   each_ok depth [] fits found waits = tt
   each_ok depth (x ∷ xs) fits found waits = (
     record { fits = fits 0 x (omega arith); found = found.0; waits = λ m. waits m 0 x (omega arith) },
@@ -607,7 +610,7 @@ module _ (b : Bound) (process : BoundProcess) (code : List Node) (first end : �
   call_looked k calls line into args g None e found ft fc full = absurd found
   call_looked k calls line into args g (Some f) e found ft fc full =
       let fits = all_at (FitsFunction b) b.functions g f functions e in
-      let body = body_fine_with k calls f.body (each_ok k (simples_in f.body) fits.body.simples found (λ m. fits.waits)) (each_of (FitsExpr b) (values_in f.body) fits.body.values) in
+      let body = body_fine_with k calls f.body (each_ok k (simples_in f.body) fits.body.simples found (λ m. fits.waits)) (recursion_from_All (FitsExpr b) (values_in f.body) fits.body.values) in
       call_fine line into args f (body_shape h (callees_within k h) f.body) body ft fc full
 
   calls_fine : (depth : ℕ) → CallsFine depth
@@ -616,5 +619,5 @@ module _ (b : Bound) (process : BoundProcess) (code : List Node) (first end : �
       call_looked k (calls_fine k) line into args g (slice_get b.functions g) refl found ft fc (full_of (suc k) line (simple.Assign into (right.Call g args)))
 
   -- the nodes of a body are sound where they are laid
-  pub body_fine : (depth : ℕ) (ss : List BoundStat) → Each (SimpleOk depth) (simples_in ss) → Each (FitsExpr b) (values_in ss) → Fine (body_shape h (callees_within depth h) ss) (body_widths ss)
+  pub body_fine : (depth : ℕ) (ss : List BoundStat) → AllByRecursion (SimpleOk depth) (simples_in ss) → AllByRecursion (FitsExpr b) (values_in ss) → Fine (body_shape h (callees_within depth h) ss) (body_widths ss)
   body_fine depth ss f g = body_fine_with depth (calls_fine depth) ss f g

@@ -2,6 +2,8 @@
 use Rattle.std.proofs.Common.{◌≡◌, ℕ, zero, suc, ◌<◌, ◌⊎◌, inl, inr, ⊎_elim, List, [], ◌∷◌, Bool, true, false, Some, refl, sym, ap, ◌∙◌, subst, arith}
 use Rattle.std.specs.Prelude.{slice_get, slice_index_or, ◌||◌, Contains}
 use Rattle.std.specs.List.{list_any}
+use Rattle.std.proofs.lemmas.Bool.{or_left, or_right}
+use Rattle.ooo_lemmas.proofs.Contained.{not_in_none, one_is}
 use Rattle.ooo_code.specs.declared.node.Node.{Node}
 use Rattle.ooo_code.specs.declared.node.NodeKind.{NodeKind}
 use Rattle.ooo_code.specs.declared.node.NodeKind.TheVariants as kind
@@ -17,15 +19,9 @@ use Rattle.ooo_shapes.proofs.Touching.{or_assoc, nodes_some}
 
 -- ---- elements of short lists
 
-pub none_of : {A : Type 0} (y : A) → Contains [] y → ⊥
-none_of y c = let lt = c.1 in absurd (omega (arith, lt))
-
 at_one : {A : Type 0} (a y : A) (k : ℕ) → k < 1 → slice_index_or (a ∷ []) k y ≡ y → a ≡ y
 at_one a y zero lt e = e
 at_one a y (suc k) lt e = absurd (omega (arith, lt))
-
-pub one_of : {A : Type 0} (a y : A) → Contains (a ∷ []) y → a ≡ y
-one_of a y c = let lt = c.1 in at_one a y c.0 (omega (arith, lt)) c.2
 
 pub in_one : {A : Type 0} (a y : A) → a ≡ y → Contains (a ∷ []) y
 in_one a y e = (0, omega arith, e)
@@ -45,14 +41,6 @@ or_either : (x y : Bool) → (x || y) ≡ true → (x ≡ true) ⊎ (y ≡ true)
 or_either true y h = inl refl
 or_either false y h = inr h
 
-or_first : (x y : Bool) → x ≡ true → (x || y) ≡ true
-or_first true y h = refl
-or_first false y h = absurd cc
-
-or_second : (x y : Bool) → y ≡ true → (x || y) ≡ true
-or_second true y h = refl
-or_second false y h = h
-
 -- ---- ways
 
 -- a node that leads to this one and no other
@@ -67,7 +55,7 @@ pub record TwoWays (ms : List ℕ) (q r : ℕ) : Type 0 where
   pub only : (m : ℕ) → Contains ms m → (q ≡ m) ⊎ (r ≡ m)
 
 pub one_way : (q : ℕ) → OneWay (q ∷ []) q
-one_way q = record { there = in_one q q refl; only = λ m c. one_of q m c }
+one_way q = record { there = in_one q q refl; only = λ m c. one_is q m c }
 
 pub way_twice : (q : ℕ) → OneWay (q ∷ q ∷ []) q
 way_twice q = record { there = in_two q q q (inl refl); only = λ m c. ⊎_elim (λ e. e) (λ e. e) (two_of q q m c) }
@@ -77,7 +65,7 @@ two_ways q r = record { first = in_two q r q (inl refl); second = in_two q r r (
 
 -- a wait leads nowhere within its segment
 waits_end : (k : NodeKind) (next m : ℕ) (pause : Pause) → WaitsFor k pause → Contains (leads_to k next) m → ⊥
-waits_end (kind.Wait w) next m pause h c = none_of m c
+waits_end (kind.Wait w) next m pause h c = not_in_none m c
 waits_end _ next m pause h c = h
 
 -- ---- nodes that are neither a wait nor a trigger
@@ -371,7 +359,7 @@ module _ (b : Bound) (process : BoundProcess) (total : ℕ) (code : List Node) w
   inside_goes : (items : List Item) (i : Node) (a : Tree) → Inside items (Goes i a) → Inside items a
   inside_goes items i a x = record {
     outs = x.outs;
-    touches = λ test s. x.touches test (or_second (node_some test i) (tree_some test a) s);
+    touches = λ test s. x.touches test (or_right (node_some test i) (tree_some test a) s);
     names = x.names;
     waits = x.waits;
   }
@@ -379,7 +367,7 @@ module _ (b : Bound) (process : BoundProcess) (total : ℕ) (code : List Node) w
   inside_sets : (items : List Item) (i : Node) (a : Tree) → Inside items (Sets i a) → Inside items a
   inside_sets items i a x = record {
     outs = x.outs;
-    touches = λ test s. x.touches test (or_second (node_some test i) (tree_some test a) s);
+    touches = λ test s. x.touches test (or_right (node_some test i) (tree_some test a) s);
     names = λ e s. x.names e (inr s);
     waits = x.waits;
   }
@@ -388,7 +376,7 @@ module _ (b : Bound) (process : BoundProcess) (total : ℕ) (code : List Node) w
   inside_first items i a c x = record {
     outs = λ y s. x.outs y (inl s);
     touches = λ test s.
-        x.touches test (or_second (node_some test i) (tree_some test a || tree_some test c) (or_first (tree_some test a) (tree_some test c) s));
+        x.touches test (or_right (node_some test i) (tree_some test a || tree_some test c) (or_left (tree_some test a) (tree_some test c) s));
     names = λ e s. x.names e (inl s);
     waits = λ p s. x.waits p (inl s);
   }
@@ -397,7 +385,7 @@ module _ (b : Bound) (process : BoundProcess) (total : ℕ) (code : List Node) w
   inside_second items i a c x = record {
     outs = λ y s. x.outs y (inr s);
     touches = λ test s.
-        x.touches test (or_second (node_some test i) (tree_some test a || tree_some test c) (or_second (tree_some test a) (tree_some test c) s));
+        x.touches test (or_right (node_some test i) (tree_some test a || tree_some test c) (or_right (tree_some test a) (tree_some test c) s));
     names = λ e s. x.names e (inr s);
     waits = λ p s. x.waits p (inr s);
   }
@@ -431,11 +419,11 @@ module _ (b : Bound) (process : BoundProcess) (total : ℕ) (code : List Node) w
   first_some n i test (Ends j) d h e t = subst (λ (i : Node). node_some test i ≡ true) (same_node n i j e h.0.is) t
   first_some n i test (Waits j pause) d h e t = subst (λ (i : Node). node_some test i ≡ true) (same_node n i j e h.is) t
   first_some n i test (Sets j a) d h e t =
-      or_first (node_some test j) (tree_some test a) (subst (λ (i : Node). node_some test i ≡ true) (same_node n i j e h.0.is) t)
+      or_left (node_some test j) (tree_some test a) (subst (λ (i : Node). node_some test i ≡ true) (same_node n i j e h.0.is) t)
   first_some n i test (Goes j a) d h e t =
-      or_first (node_some test j) (tree_some test a) (subst (λ (i : Node). node_some test i ≡ true) (same_node n i j e h.0.is) t)
+      or_left (node_some test j) (tree_some test a) (subst (λ (i : Node). node_some test i ≡ true) (same_node n i j e h.0.is) t)
   first_some n i test (Forks j a c) d h e t =
-      or_first (node_some test j) (tree_some test a || tree_some test c) (subst (λ (i : Node). node_some test i ≡ true) (same_node n i j e h.0.is) t)
+      or_left (node_some test j) (tree_some test a || tree_some test c) (subst (λ (i : Node). node_some test i ≡ true) (same_node n i j e h.0.is) t)
 
   pub part_touches : (items : List Item) (n : ℕ) (i : Node) (test : Touch → Bool) → Part items n → slice_get code n ≡ Some i → node_some test i ≡ true → list_any test (first_touches b items) ≡ true
   part_touches items n i test x e t = x.inside.touches test (first_some n i test x.tree x.headed x.rooted e t)
@@ -443,7 +431,7 @@ module _ (b : Bound) (process : BoundProcess) (total : ℕ) (code : List Node) w
   -- which events it names in a trigger
   none_named : (n : ℕ) (i j : Node) (e : ℕ) → slice_get code n ≡ Some i → slice_get code n ≡ Some j → trigger_events j.kind ≡ [] → Contains (trigger_events i.kind) e → ⊥
   none_named n i j e is at none c =
-      none_of e (subst (λ es. Contains es e) none (subst (λ (i : Node). Contains (trigger_events i.kind) e) (same_node n i j is at) c))
+      not_in_none e (subst (λ es. Contains es e) none (subst (λ (i : Node). Contains (trigger_events i.kind) e) (same_node n i j is at) c))
 
   first_names : (n : ℕ) (i : Node) (e : ℕ) (a : Tree) → IsHeaded a → Rooted a n → slice_get code n ≡ Some i → Contains (trigger_events i.kind) e → HasTrigger a e
   first_names n i e (Out y) d h is c = absurd d

@@ -2,6 +2,7 @@
 use Rattle.std.proofs.Common.{◌≡◌, ◌≢◌, ℕ, zero, suc, ◌⊎◌, inl, inr, ⊎_elim, List, [], ◌∷◌, map, Option, Some, None, Bool, true, false, ◌&&◌, if◌then◌else◌, refl, sym, ap, ◌∙◌, subst}
 use Rattle.std.specs.Prelude.{slice_get, slice_set, is_none, nat_lt, ◌==◌}
 use Rattle.std.proofs.lemmas.Bool.{cases_eq}
+use Rattle.ooo_lemmas.proofs.Placed.{get_other}
 use Rattle.ooo_time.specs.declared.stamp.Stamp.{Stamp}
 use Rattle.ooo_events.specs.Slots.{Slot}
 use Rattle.ooo_code.specs.declared.activation.JobEnd.{JobEnd}
@@ -13,13 +14,6 @@ use Rattle.ooo_meaning.specs.World.{World, Wait, Progress, Over, Goes, never, wa
 use Rattle.ooo_meaning.specs.Sequence.{State, Result, state_of, turn_at, turn, evaluate, finish, run, run_whole}
 
 -- ---- lists
-
-get_other : {A : Type 0} (xs : List A) (p q : ℕ) (x : A) → p ≢ q → slice_get (slice_set xs q x) p ≡ slice_get xs p
-get_other [] p q x ne = refl
-get_other (y ∷ ys) zero zero x ne = absurd (ne refl)
-get_other (y ∷ ys) zero (suc q) x ne = refl
-get_other (y ∷ ys) (suc p) zero x ne = refl
-get_other (y ∷ ys) (suc p) (suc q) x ne = get_other ys p q x (λ e. ne (ap suc e))
 
 get_set : {A : Type 0} (xs : List A) (p : ℕ) (x y : A) → slice_get xs p ≡ Some y → slice_get (slice_set xs p x) p ≡ Some x
 get_set [] p x y e = absurd cc

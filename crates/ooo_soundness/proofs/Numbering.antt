@@ -1,7 +1,8 @@
 -- The names of functions mean the functions that have their numbers.
-use Rattle.std.proofs.Common.{◌≡◌, ◌∙◌, refl, sym, ap, subst, arith, ℕ, zero, suc, ◌+◌, ◌<◌, List, [], ◌∷◌, ◌++◌, length, length-append, slice_set, length-set, Bool, true, false, Option, Some}
+use Rattle.std.proofs.Common.{◌≡◌, ◌∙◌, refl, sym, ap, subst, arith, ℕ, zero, suc, ◌+◌, ◌<◌, List, [], ◌∷◌, length, length-append, slice_set, length-set, Bool, true, false, Option, Some}
 use Rattle.std.specs.Prelude.{◌==◌, ◌||◌, slice_get}
 use Rattle.std.proofs.lemmas.Bool.{eqb-true, eq-eqb, true≢false}
+use Rattle.ooo_lemmas.proofs.Placed.{kept_at, behind_at}
 use Rattle.ooo_constants.specs.declared.meaning.Meaning.{Meaning}
 use Rattle.ooo_constants.specs.declared.meaning.Meaning.TheVariants as meaning
 use Rattle.ooo_walk.specs.declared.state.WalkedInstance.{WalkedInstance}
@@ -13,16 +14,6 @@ use Rattle.ooo_elaborate.specs.Functions.{functions_in, meanings_with, of_instan
 use Rattle.ooo_soundness.specs.Numbering.{HasNumbers, FunctionsAreNumbered}
 
 -- ---- lists
-
-kept_at : {A : Type 0} (xs ys : List A) (i : ℕ) (x : A) → slice_get xs i ≡ Some x → slice_get (xs ++ ys) i ≡ Some x
-kept_at [] ys i x h = absurd cc
-kept_at (y ∷ xs) ys zero x h = h
-kept_at (y ∷ xs) ys (suc i) x h = kept_at xs ys i x h
-
-behind_at : {A : Type 0} (xs ys : List A) (i k : ℕ) → length xs + i ≡ k → slice_get (xs ++ ys) k ≡ slice_get ys i
-behind_at [] ys i k h = let e : k ≡ i = omega (arith, h) in ap (λ n. slice_get ys n) e
-behind_at (x ∷ xs) ys i zero h = absurd (omega (arith, h))
-behind_at (x ∷ xs) ys i (suc k) h = behind_at xs ys i k (omega (arith, h))
 
 set_itself : (xs : List Meaning) (i : ℕ) (a : Meaning) → i < length xs → slice_get (slice_set xs i a) i ≡ Some a
 set_itself [] i a h = absurd (omega (arith, h))

@@ -1,7 +1,8 @@
 -- The channel behind a port is of the kind and the type that the port needs.
-use Rattle.std.proofs.Common.{◌≡◌, ◌∙◌, refl, ap, sym, subst, ℕ, zero, suc, List, [], ◌∷◌, length, replicate, slice_set, Bool, true, false, Option, Some, None, ◌⊎◌, inl, inr}
+use Rattle.std.proofs.Common.{◌≡◌, ◌∙◌, refl, ap, sym, subst, ℕ, zero, suc, List, [], ◌∷◌, length, slice_set, Bool, true, false, Option, Some, None, ◌⊎◌, inl, inr}
 use Rattle.std.specs.Prelude.{slice_get, not, ◌&&◌, is_some, if◌then◌else◌}
 use Rattle.std.proofs.lemmas.Bool.{and_parts}
+use Rattle.ooo_lemmas.proofs.Placed.{replicated, set_cases}
 use Rattle.ooo_value.specs.declared.bound.ChannelKind.{ChannelKind}
 use Rattle.ooo_value.specs.declared.bound.ChannelKind.TheVariants as channel
 use Rattle.ooo_value.specs.declared.kinds.Kind.{Kind}
@@ -86,20 +87,6 @@ port_fits _ u c h g = tt
 abbrev Fit : Walk → List Meaning → Type 0
 Fit w ends = (p : ℕ) (m : Meaning) (port : WalkedPort) → slice_get ends p ≡ Some m → slice_get w.ports p ≡ Some port →
     (m ≡ meaning.Nothing) ⊎ (fits w port.form m ≡ true)
-
-replicated : (n : ℕ) (x y : Meaning) (p : ℕ) → slice_get (replicate n x) p ≡ Some y → y ≡ x
-replicated zero x y p h = absurd cc
-replicated (suc n) x y zero h = cc
-replicated (suc n) x y (suc p) h = replicated n x y p h
-
--- an item of a list of which one is set
-set_cases : (xs : List Meaning) (i : ℕ) (a : Meaning) (p : ℕ) (m : Meaning) → slice_get (slice_set xs i a) p ≡ Some m →
-    (slice_get xs p ≡ Some m) ⊎ ((i ≡ p) × (a ≡ m))
-set_cases [] i a p m h = inl h
-set_cases (x ∷ xs) zero a zero m h = inr (refl, cc)
-set_cases (x ∷ xs) zero a (suc p) m h = inl h
-set_cases (x ∷ xs) (suc i) a zero m h = inl h
-set_cases (x ∷ xs) (suc i) a (suc p) m h = elim (set_cases xs i a p m h) [ inl old ↦ inl old | inr new ↦ inr (ap suc new.0, new.1) ]
 
 set_fits : (w : Walk) (b : WalkedBinding) (q : WalkedPort) (ends : List Meaning) → slice_get w.ports b.port ≡ Some q →
     fits w q.form b.to ≡ true → Fit w ends → Fit w (slice_set ends b.port b.to)

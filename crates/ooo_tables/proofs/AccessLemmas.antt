@@ -4,6 +4,7 @@ use Rattle.std.specs.Prelude.{All, Contains, IsSomeAnd, slice_get}
 use Rattle.std.proofs.lemmas.List.{same_lists, length_push}
 use Rattle.std.proofs.lemmas.List.Elements.{All-push}
 use Rattle.std.proofs.lemmas.Option.{slice_get-get_or}
+use Rattle.ooo_lemmas.proofs.Placed.{at_push, inside}
 use Rattle.ooo_time.specs.declared.time.Time.{Time}
 use Rattle.ooo_code.specs.declared.design.Design.{Design}
 use Rattle.ooo_code.specs.declared.design.Proc.{Proc}
@@ -13,9 +14,7 @@ use Rattle.ooo_access.specs.declared.access.Access.{Access}
 use Rattle.ooo_access.specs.Access.{AreAscending, AreThose, IsAccess, IsAccessOf, IsInOrder, Lists}
 use Rattle.ooo_access.specs.Notices.{IsNoticeBefore, Notice}
 use Rattle.ooo_tables.specs.Accesses.{AreAccesses}
-use Rattle.ooo_tables.proofs.Members.{at_push}
 use Rattle.ooo_tables.proofs.Ordered.{same_ordered}
-use Rattle.ooo_tables.proofs.RowLemmas.{there}
 
 -- numbers in order of which one fact says which they are
 same_numbers : (P : ℕ → Type 0) (xs ys : List ℕ) → AreThose P xs → AreThose P ys → AreAscending xs → AreAscending ys → xs ≡ ys
@@ -85,7 +84,7 @@ same_accesses design segments xs ys a b = same_lists xs ys (a.count ∙ sym b.co
         let n = a.count in
         let m = b.count in
         let lt' : k < length ys = omega arith in
-        let segment = there segments k (omega arith) in
+        let segment = inside segments k (omega arith) in
         same_access design segment.0 (get_or xs k d) (get_or ys k d)
         (a.each k segment.0 (get_or xs k d) segment.1 (slice_get-get_or xs k d lt))
         (b.each k segment.0 (get_or ys k d) segment.1 (slice_get-get_or ys k d lt'))

@@ -1,13 +1,14 @@
 -- Segments have one table of clashes.
 use Rattle.std.proofs.Common.{◌≡◌, List, length, refl, true, false}
 use Rattle.std.proofs.lemmas.Bool.{false≢true}
+use Rattle.ooo_lemmas.proofs.Placed.{inside}
 use Rattle.ooo_value.specs.declared.bound.BoundEvent.{BoundEvent}
 use Rattle.ooo_access.specs.declared.access.Access.{Access}
 use Rattle.ooo_conflicts.specs.declared.kind.ClashKind.{ClashKind}
 use Rattle.ooo_conflicts.specs.declared.kind.ClashKind.TheVariants.{Apart, Earlier, Same}
 use Rattle.ooo_conflicts.specs.Kinds.{IsKindOf, IsTable, kind_at}
 use Rattle.ooo_tables.specs.Tables.{HaveCount}
-use Rattle.ooo_tables.proofs.RowLemmas.{there, same_rows}
+use Rattle.ooo_tables.proofs.RowLemmas.{same_rows}
 
 -- two segments clash in one way
 same_kind : (events : List BoundEvent) (x y : Access) (j k : ClashKind) → IsKindOf events x y j → IsKindOf events x y k → j ≡ k
@@ -25,6 +26,6 @@ pub same_clashes : (events : List BoundEvent) (access : List Access) (rows other
 same_clashes events access rows others a wide b wide' =
     same_rows (length access) Apart rows others a.count b.count wide wide'
     (λ x y lt lt'.
-    let first = there access x lt in
-    let second = there access y lt' in
+    let first = inside access x lt in
+    let second = inside access y lt' in
     same_kind events first.0 second.0 (kind_at rows x y) (kind_at others x y) (a.kinds x y first.0 second.0 first.1 second.1) (b.kinds x y first.0 second.0 first.1 second.1))

@@ -1,4 +1,3 @@
-pub mod Members
 pub mod Ordered
 pub mod RowLemmas
 pub mod GraphLemmas

@@ -1,7 +1,7 @@
 -- Lists in order that have the same members are the same.
 use Rattle.std.proofs.Common.{◌≡◌, suc, List, [], ◌∷◌, refl, ap, sym, ◌∙◌, subst, arith, inl, inr}
 use Rattle.std.specs.Prelude.{Contains, AllPairs}
-use Rattle.ooo_tables.proofs.Members.{not_in_none, in_first, in_later, first_or_later}
+use Rattle.ooo_lemmas.proofs.Contained.{not_in_none, in_first, in_later, first_or_later}
 
 -- what is later in the list comes after the first
 comes_after : {A : Type 0} (R : A → A → Type 0) (x z : A) (xs : List A) → AllPairs R (x ∷ xs) → Contains xs z → R x z

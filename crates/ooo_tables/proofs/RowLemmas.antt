@@ -1,14 +1,7 @@
 -- Lists and tables that have the same entries are the same.
-use Rattle.std.proofs.Common.{◌≡◌, ℕ, zero, suc, ◌<◌, List, [], ◌∷◌, length, get_or, refl, sym, ◌∙◌, arith, Some}
-use Rattle.std.specs.Prelude.{slice_get}
+use Rattle.std.proofs.Common.{◌≡◌, ℕ, ◌<◌, List, [], length, get_or, sym, ◌∙◌, arith}
 use Rattle.std.proofs.lemmas.List.{same_lists, get_or_default}
 use Rattle.ooo_tables.specs.Tables.{HaveCount}
-
--- below the length there is an item
-pub there : {A : Type 0} (xs : List A) (k : ℕ) → k < length xs → (x : A) × (slice_get xs k ≡ Some x)
-there [] k lt = absurd (omega arith)
-there (x ∷ xs) zero lt = (x, refl)
-there (x ∷ xs) (suc k) lt = there xs k (omega arith)
 
 -- tables of so many rows and columns with the same entries
 pub same_rows : {A : Type 0} (count : ℕ) (none : A) (rows others : List (List A)) → length rows ≡ count → length others ≡ count → HaveCount count rows → HaveCount count others → ((a b : ℕ) → a < count → b < count → get_or (get_or rows a []) b none ≡ get_or (get_or others a []) b none) → rows ≡ others

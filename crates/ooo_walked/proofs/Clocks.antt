@@ -1,6 +1,7 @@
 -- The processes of clocks write a signal of bool.
 use Rattle.std.proofs.Common.{◌≡◌, ◌∙◌, refl, ap, subst, ℕ, zero, suc, ◌≤◌, List, [], ◌∷◌, ◌++◌, length, true, Some, ◌⊎◌, inl, inr}
 use Rattle.std.specs.Prelude.{slice_get}
+use Rattle.ooo_lemmas.proofs.Placed.{kept_at, at_end}
 use Rattle.ooo_time.specs.declared.time.Time.{Time}
 use Rattle.ooo_time.specs.Scales.{greatest_time}
 use Rattle.ooo_value.specs.declared.bound.ChannelKind.TheVariants.{Signal}
@@ -10,7 +11,6 @@ use Rattle.ooo_walk.specs.declared.state.Walk.{Walk}
 use Rattle.ooo_walk.specs.declared.state.WalkedChannel.{WalkedChannel}
 use Rattle.ooo_walk.specs.declared.state.WalkedProcess.{WalkedProcess}
 use Rattle.ooo_walked.specs.Clocks.{IsClock, ClocksAreRight}
-use Rattle.ooo_walked.proofs.Parts.{kept_at, at_end}
 use Rattle.ooo_walked.proofs.Walked.{IsKept, IsKeptBehind, walked}
 
 abbrev AreClocks : List WalkedProcess → List WalkedChannel → Type 0

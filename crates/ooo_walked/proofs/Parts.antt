@@ -1,8 +1,9 @@
 -- The variables, channels and events of a walk are right.
-use Rattle.std.proofs.Common.{◌≡◌, ◌∙◌, refl, sym, ap, subst, arith, ℕ, zero, suc, ◌+◌, ◌<◌, List, [], ◌∷◌, ◌++◌, length, length-append, true, Option, Some, None}
-use Rattle.std.specs.Prelude.{All, Contains, IsSome, slice_get, if◌then◌else◌}
+use Rattle.std.proofs.Common.{◌≡◌, ◌∙◌, refl, sym, ap, subst, arith, ℕ, suc, ◌+◌, ◌<◌, List, [], ◌∷◌, ◌++◌, length, length-append, true, Option, Some, None}
+use Rattle.std.specs.Prelude.{All, IsSome, slice_get, if◌then◌else◌}
 use Rattle.std.proofs.lemmas.List.Elements.{All-append, All-push, All-nil, All-cons, All-set, All-weaker, All-contains}
-use Rattle.std.proofs.lemmas.Option.{slice_get_within, get_or_from_slice_get}
+use Rattle.ooo_lemmas.proofs.Contained.{contains_at}
+use Rattle.ooo_lemmas.proofs.Placed.{kept_at, at_end}
 use Rattle.ooo_value.specs.declared.bound.BoundChannel.{BoundChannel}
 use Rattle.ooo_value.specs.declared.bound.BoundEvent.{BoundEvent}
 use Rattle.ooo_value.specs.declared.bound.BoundEvent.TheVariants as event
@@ -21,16 +22,6 @@ use Rattle.ooo_walked.proofs.Walked.{IsKept, IsKeptBehind, IsQuiet, walked}
 
 -- ---- lists that grow
 
--- what a longer list has at a place of the shorter one
-pub kept_at : {A : Type 0} (xs ys : List A) (i : ℕ) (x : A) → slice_get xs i ≡ Some x → slice_get (xs ++ ys) i ≡ Some x
-kept_at [] ys i x h = absurd cc
-kept_at (y ∷ xs) ys zero x h = h
-kept_at (y ∷ xs) ys (suc i) x h = kept_at xs ys i x h
-
-pub at_end : {A : Type 0} (xs : List A) (x : A) → slice_get (xs ++ x ∷ []) (length xs) ≡ Some x
-at_end [] x = refl
-at_end (y ∷ xs) x = at_end xs x
-
 -- a test of an option that holds where there is something
 pub still : {A : Type 0} (P : Option A → Type 0) → (P None → ⊥) → (xs ys : List A) (i : ℕ) → P (slice_get xs i) → P (slice_get (xs ++ ys) i)
 still {A = A} P none xs ys i h = at (slice_get xs i) refl h
@@ -46,9 +37,6 @@ bounds_append (c ∷ cs) ds = ap (λ bs. c.bound ∷ bs) (bounds_append cs ds)
 pub bounds_length : (cs : List WalkedChannel) → length (bounds_of cs) ≡ length cs
 bounds_length [] = refl
 bounds_length (c ∷ cs) = ap suc (bounds_length cs)
-
-pub contains_at : {A : Type 0} (xs : List A) (i : ℕ) (x : A) → slice_get xs i ≡ Some x → Contains xs x
-contains_at xs i x is = (i, slice_get_within xs i x is, get_or_from_slice_get xs i x x is)
 
 -- ---- events
 

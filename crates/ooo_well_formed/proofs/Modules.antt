@@ -2,6 +2,7 @@
 use Rattle.std.proofs.Common.{◌≡◌, ◌∙◌, refl, sym, subst, arith, ℕ, zero, suc, ◌-◌, ◌<◌, List, [], ◌∷◌, ◌++◌, length, Bool, true, false, Option, Some, None}
 use Rattle.std.specs.Prelude.{All, Contains, IsSome, slice_get}
 use Rattle.std.proofs.lemmas.List.Elements.{All-contains, All-weaker}
+use Rattle.ooo_lemmas.proofs.Each.{first_part, then_part}
 use Rattle.ooo_lexer.specs.declared.position.Position.{Position}
 use Rattle.ooo_value.specs.declared.bound.ProcessKind.{ProcessKind}
 use Rattle.ooo_value.specs.declared.bound.ProcessKind.TheVariants as process
@@ -40,7 +41,7 @@ use Rattle.ooo_registered.specs.Parts.{BodiesAreInside, EventsAreOfText, body_sc
 use Rattle.ooo_registered.specs.Waiting.{CalledDontWait, CallsAreEdges, MethodsDontWait, NoCallOnCycle, called_by, edges_of, known_of}
 use Rattle.ooo_well_formed.proofs.Callers.{reached_called}
 use Rattle.ooo_well_formed.proofs.Names.{AllStandIn, all_stand, functions_among, number_is, numbers_below, part_among}
-use Rattle.ooo_well_formed.proofs.Rights.{events_noted, first_part, leave_of, noted, then_called, then_part, then_waits, written}
+use Rattle.ooo_well_formed.proofs.Rights.{events_noted, leave_of, noted, then_called, then_waits, written}
 
 -- ---- notes of members
 

@@ -1,8 +1,8 @@
 -- What is noted of a text without breaches.
 use Rattle.std.proofs.Common.{◌≡◌, refl, arith, ℕ, List, [], ◌∷◌, ◌++◌, map, Bool, true, false, Option, Some, None}
 use Rattle.std.specs.Prelude.{Contains, not, if◌then◌else◌}
-use Rattle.std.specs.List.{AllByRecursion}
 use Rattle.std.proofs.lemmas.List.Elements.{Contains-append_right}
+use Rattle.ooo_lemmas.proofs.Each.{first_part, then_part}
 use Rattle.ooo_lexer.specs.declared.position.Position.{Position}
 use Rattle.ooo_syntax.specs.declared.leaves.Word.{Word}
 use Rattle.ooo_syntax.specs.declared.stat.Event.{Event}
@@ -23,14 +23,6 @@ use Rattle.ooo_fitting.specs.Naming.{Leave, MayAllBeNoted}
 use Rattle.ooo_fitting.specs.Written.{MayAllBeWritten}
 use Rattle.ooo_parts.specs.Texts.{no_calls}
 use Rattle.ooo_right.specs.Right.{IsRight, AreRight}
-
-pub first_part : {A : Type 0} (P : A → Type 0) (xs ys : List A) → AllByRecursion P (xs ++ ys) → AllByRecursion P xs
-first_part P [] ys h = tt
-first_part P (x ∷ xs) ys h = (h.0, first_part P xs ys h.1)
-
-pub then_part : {A : Type 0} (P : A → Type 0) (xs ys : List A) → AllByRecursion P (xs ++ ys) → AllByRecursion P ys
-then_part P [] ys h = h
-then_part P (x ∷ xs) ys h = then_part P xs ys h.1
 
 -- a text without breaches is right
 pub right : (ns : List Note) → breaches_in ns ≡ [] → AreRight ns

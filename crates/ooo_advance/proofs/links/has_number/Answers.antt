@@ -1,4 +1,4 @@
-use Rattle.ooo_advance.proofs.Ascending.{found_iff}
+use Rattle.ooo_lemmas.proofs.Ascending.{found_iff}
 use Rattle.ooo_advance.proofs.links.has_number.Goals as goal
 
 pub returns : goal.returns

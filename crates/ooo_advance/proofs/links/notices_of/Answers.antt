@@ -1,9 +1,10 @@
 -- Segment by segment.
 use Rattle.std.proofs.Common.{◌++◌, ◌∷◌, [], sym, subst, take}
 use Rattle.std.proofs.lemmas.List.{take_more, take_all}
+use Rattle.ooo_lemmas.proofs.Placed.{read_all}
 use Rattle.ooo_access.specs.Access.{IsInOrder}
 use Rattle.ooo_advance.specs.Links.{AreNotices}
-use Rattle.ooo_advance.proofs.LinkLemmas.{row_none, row_more, read_all}
+use Rattle.ooo_advance.proofs.LinkLemmas.{row_none, row_more}
 use Rattle.ooo_advance.proofs.links.notices_of.Goals as goal
 
 pub loop-to-init : goal.loop-to-init

@@ -1,4 +1,4 @@
-use Rattle.ooo_conflicts.proofs.Ascending.{found_iff}
+use Rattle.ooo_lemmas.proofs.Ascending.{found_iff}
 use Rattle.ooo_conflicts.proofs.sharing.has_number.Goals as goal
 
 pub returns : goal.returns

@@ -1,9 +1,9 @@
 -- Segment by segment.
-use Rattle.std.proofs.Common.{◌≡◌, ◌+◌, ◌<◌, length, refl, arith, ◌∙◌, sym}
+use Rattle.std.proofs.Common.{◌≡◌, ◌<◌, length, refl, arith}
 use Rattle.std.proofs.lemmas.List.{length_push}
+use Rattle.ooo_lemmas.proofs.Placed.{read_all, read_is}
 use Rattle.ooo_access.specs.Access.{IsInOrder}
 use Rattle.ooo_conflicts.specs.Kinds.{AreListed}
-use Rattle.ooo_conflicts.proofs.SetLemmas.{read_is, read_all}
 use Rattle.ooo_conflicts.proofs.CalledLemmas.{row_none, row_more, row_end}
 use Rattle.ooo_conflicts.proofs.table.row_of.Goals as goal
 

@@ -1,4 +1,4 @@
-use Rattle.ooo_segments.proofs.Ascending.{found_iff}
+use Rattle.ooo_lemmas.proofs.Ascending.{found_iff}
 use Rattle.ooo_segments.proofs.edges.has_number.Goals as goal
 
 pub returns : goal.returns

@@ -1,5 +1,5 @@
 -- Segment by segment.
-use Rattle.ooo_tables.proofs.Members.{read_is}
+use Rattle.ooo_lemmas.proofs.Placed.{read_is}
 use Rattle.ooo_tables.proofs.AccessLemmas.{accesses_more}
 use Rattle.ooo_tables.proofs.tables.access_of.Goals as goal
 

@@ -1,7 +1,7 @@
 -- Segment by segment.
 use Rattle.std.proofs.Common.{◌<◌, length, arith}
 use Rattle.std.specs.Prelude.{slice_get}
-use Rattle.ooo_tables.proofs.Members.{read_is}
+use Rattle.ooo_lemmas.proofs.Placed.{read_is}
 use Rattle.ooo_tables.specs.Text.{segment_line}
 use Rattle.ooo_tables.proofs.TextLemmas.{each_more, segment_written}
 use Rattle.ooo_tables.proofs.texts.append_segments.Goals as goal

@@ -1,10 +1,8 @@
 -- Row by row.
-use Rattle.std.proofs.Common.{◌≡◌, ◌<◌, List, length, arith, ◌∙◌, sym, subst, ap}
-use Rattle.std.specs.Prelude.{All}
-use Rattle.std.proofs.lemmas.Option.{slice_get-get_or}
+use Rattle.std.proofs.Common.{◌≡◌, ◌<◌, length, arith}
+use Rattle.ooo_lemmas.proofs.Placed.{read_all, read_is}
 use Rattle.ooo_access.specs.Access.{IsInOrder}
-use Rattle.ooo_conflicts.specs.Kinds.{AreListed, AllCalled}
-use Rattle.ooo_conflicts.proofs.SetLemmas.{read_is, read_all}
+use Rattle.ooo_conflicts.specs.Kinds.{AllCalled}
 use Rattle.ooo_conflicts.proofs.CalledLemmas.{rows_none, rows_more, rows_end, rows_long, rows_wide, all_listed}
 use Rattle.ooo_conflicts.proofs.table.ClashTable.make.Goals as goal
 

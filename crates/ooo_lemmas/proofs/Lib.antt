@@ -1,0 +1,5 @@
+pub mod Each
+pub mod Contained
+pub mod Placed
+pub mod Ascending
+pub mod Counting
