@@ -518,10 +518,7 @@ fn emit_stat(
             emit_stats(alloc, scene, code, depth, around, next, body.as_slice())?;
             Ok(())
         }
-        BoundStat::Simple(x) => {
-            emit_lined(alloc, scene, code, depth, around, next, x)?;
-            Ok(())
-        }
+        BoundStat::Simple(x) => emit_lined(alloc, scene, code, depth, around, next, x),
         BoundStat::If(line, test, yes, no) => {
             let spot = Spot::new(around, *line, next);
             put_branch(alloc, scene, code, depth, spot, test, yes.get(), no)?;
