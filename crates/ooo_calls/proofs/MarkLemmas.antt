@@ -3,15 +3,12 @@ use Rattle.std.proofs.Common.{◌≡◌, ℕ, ◌+◌, ◌<◌, ◌≤◌, Bool,
 use Rattle.std.specs.Prelude.{◌&&◌, ◌||◌, slice_set, slice_index_or}
 use Rattle.std.specs.List.{list_any}
 use Rattle.std.proofs.lemmas.Bool.{cases_eq, eq-eqb, ne_eqb, or_right, and_right, cases_lt}
+use Rattle.std.proofs.Math.Bool.{or-false}
 use Rattle.std.proofs.lemmas.List.{get_or-set_same, get_or-set_other, get_or-replicate, get_or_past, length-replicate}
 use Rattle.std.proofs.lemmas.List.Folds.{list_any_more}
 use Rattle.std.proofs.lemmas.List.Elements.{All-more, All-weaker}
 use Rattle.ooo_calls.specs.declared.call.Call.{Call}
 use Rattle.ooo_calls.specs.Marks.{AreBelow, AreMarksOf}
-
-or_false : (b : Bool) → (b || false) ≡ b
-or_false true = refl
-or_false false = refl
 
 and_true : (b : Bool) → (b && true) ≡ b
 and_true true = refl
@@ -34,7 +31,7 @@ marks_none test count none n = elim (cases_lt n count) [
 -- marks of functions that are tested together with a call: one more call, which marks nothing
 pub marks_kept : (test : ℕ → Call → Bool) (cs : List Call) (i : ℕ) (d : Call) (marks : List Bool) → i < length cs → ((n : ℕ) → test n (get_or cs i d) ≡ false) → AreMarksOf (λ n. list_any (test n) (take i cs)) marks → AreMarksOf (λ n. list_any (test n) (take (i + 1) cs)) marks
 marks_kept test cs i d marks lt none are n =
-    are n ∙ sym (list_any_more (test n) cs i d lt ∙ ap (λ b. list_any (test n) (take i cs) || b) (none n) ∙ or_false (list_any (test n) (take i cs)))
+    are n ∙ sym (list_any_more (test n) cs i d lt ∙ ap (λ b. list_any (test n) (take i cs) || b) (none n) ∙ or-false (list_any (test n) (take i cs)))
 
 -- one more call, which marks one function
 pub marks_more : (test : ℕ → Call → Bool) (cs : List Call) (i at : ℕ) (d : Call) (marks : List Bool) → i < length cs → at < length marks → ((n : ℕ) → test n (get_or cs i d) ≡ (at == n)) → AreMarksOf (λ n. list_any (test n) (take i cs)) marks → AreMarksOf (λ n. list_any (test n) (take (i + 1) cs)) (slice_set marks at true)
@@ -48,7 +45,7 @@ marks_more test cs i at d marks lt within one are n =
           set ∙ sym (more ∙ or_right _ _ (now ∙ here))
       | inr ne ↦
           let away : (at == n) ≡ false = ne_eqb at n (λ e. ne (sym e)) in
-          get_or-set_other marks at n true false ne ∙ are n ∙ sym (more ∙ ap (λ b. list_any (test n) (take i cs) || b) (now ∙ away) ∙ or_false (list_any (test n) (take i cs)))
+          get_or-set_other marks at n true false ne ∙ are n ∙ sym (more ∙ ap (λ b. list_any (test n) (take i cs) || b) (now ∙ away) ∙ or-false (list_any (test n) (take i cs)))
     ]
 
 -- whether a call leads from a function to a target, or to a function that was marked before

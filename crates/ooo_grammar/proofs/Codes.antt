@@ -1,6 +1,7 @@
 -- What holds of every grammar that is written as a code.
 use Rattle.std.proofs.Common.{◌≡◌, ℕ, zero, suc, Bool, true, false, not, ◌||◌, ◌==◌, List, [], ◌∷◌, ◌++◌, refl, sym, ap, ◌∙◌, subst, ◌+◌}
-use Rattle.std.proofs.lemmas.Bool.{eqb-true, eq-eqb, and_parts}
+use Rattle.std.proofs.lemmas.Bool.{eqb-true, eq-eqb, and_parts, not-true}
+use Rattle.std.proofs.Math.Bool.{or_assoc}
 use Rattle.std.specs.Option.{option_map}
 use Rattle.ooo_syntax.specs.declared.symbol.Symbol.{Symbol}
 use Rattle.ooo_grammar.specs.Numbers.{number}
@@ -13,10 +14,6 @@ use Rattle.ooo_grammar.proofs.Good.{Good, Apart, SameHead, or_if, nothing_good, 
 
 -- ---- sets
 
-not_true : (a : Bool) → not a ≡ true → a ≡ false
-not_true true e = absurd cc
-not_true false e = refl
-
 or_cases : (a b : Bool) {X : Type 0} → (a || b) ≡ true → (a ≡ true → X) → (b ≡ true → X) → X
 or_cases true b e f g = f refl
 or_cases false b e f g = g e
@@ -26,7 +23,7 @@ has_none [] ns n d h = absurd cc
 has_none (m ∷ ms) ns n d h =
     let b = and_parts (not (has ns (number m))) (disjoint ms ns) d in
     or_cases (number m == n) (has ms n) h
-    (λ e. ap (has ns) (sym (eqb-true (number m) n e)) ∙ not_true (has ns (number m)) b.0)
+    (λ e. ap (has ns) (sym (eqb-true (number m) n e)) ∙ not-true (has ns (number m)) b.0)
     (λ e. has_none ms ns n b.1 e)
 
 pub false_back : (a b : Bool) → (a ≡ true → b ≡ true) → b ≡ false → a ≡ false
@@ -51,13 +48,9 @@ has_too (m ∷ ms) ns n d h =
     (λ e. ap (has ns) (sym (eqb-true (number m) n e)) ∙ b.0)
     (λ e. has_too ms ns n b.1 e)
 
-or_or : (a b c : Bool) → (a || (b || c)) ≡ ((a || b) || c)
-or_or true b c = refl
-or_or false b c = refl
-
 pub has_append : (ms ns : Terminals) (n : ℕ) → has (ms ++ ns) n ≡ (has ms n || has ns n)
 has_append [] ns n = refl
-has_append (m ∷ ms) ns n = ap (λ b. (number m == n) || b) (has_append ms ns n) ∙ or_or (number m == n) (has ms n) (has ns n)
+has_append (m ∷ ms) ns n = ap (λ b. (number m == n) || b) (has_append ms ns n) ∙ sym (or_assoc (number m == n) (has ms n) (has ns n))
 
 or_parts : (a b : Bool) → (a || b) ≡ false → (a ≡ false) × (b ≡ false)
 or_parts true b e = absurd cc

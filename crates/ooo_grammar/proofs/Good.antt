@@ -1,5 +1,6 @@
 -- What makes a reader the reader of a form, and how readers are put together.
 use Rattle.std.proofs.Common.{◌≡◌, ℕ, zero, suc, ◌+◌, ◌<◌, ◌≤◌, Bool, true, false, ◌||◌, ◌&&◌, if◌then◌else◌, List, [], ◌∷◌, ◌++◌, Option, Some, None, is_some, ◌⊎◌, inl, inr, ⊎_elim, length, refl, sym, ap, ◌∙◌, subst, arith, append_assoc, length-append}
+use Rattle.std.proofs.lemmas.Bool.{cond-true, cond-false}
 use Rattle.ooo_syntax.specs.declared.symbol.Symbol.{Symbol}
 use Rattle.ooo_grammar.specs.Forms.{Outcome, Got, Bad, Deep, Form, Reader, Never, Nothing, nothing_r, One, one_at, one_r, Then, after, then_r, Mapped, mapped_r, Either, begins_with, either_r, Maybe, maybe_r, Repeats, stop, go, repeats_in, repeats_r, bottom_r}
 
@@ -56,12 +57,6 @@ pub if_is : {A : Type 0} (b : Bool) (x y z : A) → (if b then x else y) ≡ z �
 if_is true x y z e = inl (refl, e)
 if_is false x y z e = inr (refl, e)
 
-pub if_true : {A : Type 0} (b : Bool) (x y : A) → b ≡ true → (if b then x else y) ≡ x
-if_true b x y e = rw e refl
-
-pub if_false : {A : Type 0} (b : Bool) (x y : A) → b ≡ false → (if b then x else y) ≡ y
-if_false b x y e = rw e refl
-
 -- a test of the first token, before another rest
 pub same_begin : (f : Symbol → Bool) (b : Bool) (ts read rest us : List Symbol) → ts ≡ read ++ rest → SameHead rest us → begins_with f ts ≡ b → begins_with f (read ++ us) ≡ b
 same_begin f b ts read rest us e h i = sym ((head_append read h).same f) ∙ ap (begins_with f) (sym e) ∙ i
@@ -76,7 +71,7 @@ bottom_good {A} first goes = record {
   only = λ h e. absurd h;
   moves = λ h. absurd h;
   got = λ {ts} {rest} {a} e. absurd (not_got (begins_with first ts) ts rest a e);
-  bad = λ {ts} {rest} e. let b = is_bad (begins_with first ts) ts rest refl e in record { read = []; is = b.1; moves = λ us h. if_false _ _ _ (sym (h.same first) ∙ ap (begins_with first) (sym b.1) ∙ b.0) };
+  bad = λ {ts} {rest} e. let b = is_bad (begins_with first ts) ts rest refl e in record { read = []; is = b.1; moves = λ us h. cond-false _ _ _ (sym (h.same first) ∙ ap (begins_with first) (sym b.1) ∙ b.0) };
 }
   where
     not_got : (b : Bool) (ts rest : List Symbol) (a : A) → (if b then Deep ts else Bad ts) ≡ Got a rest → ⊥
@@ -310,20 +305,20 @@ module _ {A : Type 0} {P Q : Form A} {p q : Reader A} {first1 first2 : Symbol �
         h;
     eats = λ e h. ⊎_elim (λ k. good1.eats refl k) (λ k. good2.eats e k) h;
     only = λ {ts} {rest} {a} h e. ⊎_elim
-        (λ k. if_true (begins_with first1 ts) (p ts) (q ts) (left_starts ts rest a k) ∙ good1.only k (fewer (goes a) (goes1 a) (λ k g. (covers a k g).0) rest e))
-        (λ k. if_false (begins_with first1 ts) (p ts) (q ts) (right_starts ts rest a k e) ∙ good2.only k (fewer (goes a) (goes2 a) (λ k g. (covers a k g).1) rest e))
+        (λ k. cond-true (begins_with first1 ts) (p ts) (q ts) (left_starts ts rest a k) ∙ good1.only k (fewer (goes a) (goes1 a) (λ k g. (covers a k g).0) rest e))
+        (λ k. cond-false (begins_with first1 ts) (p ts) (q ts) (right_starts ts rest a k e) ∙ good2.only k (fewer (goes a) (goes2 a) (λ k g. (covers a k g).1) rest e))
         h;
     moves = λ h. ⊎_elim
         (λ k. let i = good1.moves k in record { read = i.read; is = i.is; moves = λ us. inl (i.moves us) })
         (λ k. let i = good2.moves k in record { read = i.read; is = i.is; moves = λ us. inr (i.moves us) })
         h;
     got = λ {ts} {rest} {a} e. ⊎_elim
-        (λ s. let i = good1.got s.1 in record { read = i.read; is = i.is; moves = λ us h. if_true _ _ _ (same_begin first1 true ts i.read rest us i.is h s.0) ∙ i.moves us h })
-        (λ s. let i = good2.got s.1 in record { read = i.read; is = i.is; moves = λ us h. if_false _ _ _ (same_begin first1 false ts i.read rest us i.is h s.0) ∙ i.moves us h })
+        (λ s. let i = good1.got s.1 in record { read = i.read; is = i.is; moves = λ us h. cond-true _ _ _ (same_begin first1 true ts i.read rest us i.is h s.0) ∙ i.moves us h })
+        (λ s. let i = good2.got s.1 in record { read = i.read; is = i.is; moves = λ us h. cond-false _ _ _ (same_begin first1 false ts i.read rest us i.is h s.0) ∙ i.moves us h })
         (if_is (begins_with first1 ts) (p ts) (q ts) (Got a rest) e);
     bad = λ {ts} {rest} e. ⊎_elim
-        (λ s. let i = good1.bad s.1 in record { read = i.read; is = i.is; moves = λ us h. if_true _ _ _ (same_begin first1 true ts i.read rest us i.is h s.0) ∙ i.moves us h })
-        (λ s. let i = good2.bad s.1 in record { read = i.read; is = i.is; moves = λ us h. if_false _ _ _ (same_begin first1 false ts i.read rest us i.is h s.0) ∙ i.moves us h })
+        (λ s. let i = good1.bad s.1 in record { read = i.read; is = i.is; moves = λ us h. cond-true _ _ _ (same_begin first1 true ts i.read rest us i.is h s.0) ∙ i.moves us h })
+        (λ s. let i = good2.bad s.1 in record { read = i.read; is = i.is; moves = λ us h. cond-false _ _ _ (same_begin first1 false ts i.read rest us i.is h s.0) ∙ i.moves us h })
         (if_is (begins_with first1 ts) (p ts) (q ts) (Bad rest) e);
   }
 
@@ -345,8 +340,8 @@ module _ {A : Type 0} {P : Form A} {p : Reader A} {first : Symbol → Bool} {goe
   maybe_starts ts rest (Some a) h = inl (maybe_begins ts rest a h)
 
   maybe_only : (ts rest : List Symbol) (o : Option A) → Maybe P ts o rest → begins_with (goes' o) rest ≡ false → maybe_r first p ts ≡ Got o rest
-  maybe_only ts rest None h e = if_false _ _ _ (ap (begins_with first) h ∙ fewer (goes' None) first at_none rest e) ∙ ap (Got None) h
-  maybe_only ts rest (Some a) h e = if_true _ _ _ (maybe_begins ts rest a h) ∙ ap (λ o. after o (λ a. nothing_r (Some a))) (good.only h (fewer (goes' (Some a)) (goes a) (at_some a) rest e))
+  maybe_only ts rest None h e = cond-false _ _ _ (ap (begins_with first) h ∙ fewer (goes' None) first at_none rest e) ∙ ap (Got None) h
+  maybe_only ts rest (Some a) h e = cond-true _ _ _ (maybe_begins ts rest a h) ∙ ap (λ o. after o (λ a. nothing_r (Some a))) (good.only h (fewer (goes' (Some a)) (goes a) (at_some a) rest e))
 
   maybe_moves : (ts rest : List Symbol) (o : Option A) → Maybe P ts o rest → Moved ts rest (λ xs us. Maybe P xs o us)
   maybe_moves ts rest None h = record { read = []; is = h; moves = λ us. refl }
@@ -361,12 +356,12 @@ module _ {A : Type 0} {P : Form A} {p : Reader A} {first : Symbol → Bool} {goe
     moves = λ {ts} {rest} {a = o} h. maybe_moves ts rest o h;
     got = λ {ts} {rest} {a = o} e. ⊎_elim
         (λ s. let m = mapped_is Some (p ts) o rest s.1 in let i = good.got m.2 in
-        record { read = i.read; is = i.is; moves = λ us h. if_true _ _ _ (same_begin first true ts i.read rest us i.is h s.0) ∙ ap (λ o. after o (λ a. nothing_r (Some a))) (i.moves us h) ∙ ap (λ o. Got o us) (sym m.1) })
-        (λ s. let i : None ≡ o = cc in let j : ts ≡ rest = cc in record { read = []; is = j; moves = λ us h. if_false _ _ _ (sym (h.same first) ∙ ap (begins_with first) (sym j) ∙ s.0) ∙ ap (λ o. Got o us) i })
+        record { read = i.read; is = i.is; moves = λ us h. cond-true _ _ _ (same_begin first true ts i.read rest us i.is h s.0) ∙ ap (λ o. after o (λ a. nothing_r (Some a))) (i.moves us h) ∙ ap (λ o. Got o us) (sym m.1) })
+        (λ s. let i : None ≡ o = cc in let j : ts ≡ rest = cc in record { read = []; is = j; moves = λ us h. cond-false _ _ _ (sym (h.same first) ∙ ap (begins_with first) (sym j) ∙ s.0) ∙ ap (λ o. Got o us) i })
         (if_is (begins_with first ts) (mapped_r Some p ts) (Got None ts) (Got o rest) e);
     bad = λ {ts} {rest} e. ⊎_elim
         (λ s. let i = good.bad (mapped_bad Some (p ts) rest s.1) in
-        record { read = i.read; is = i.is; moves = λ us h. if_true _ _ _ (same_begin first true ts i.read rest us i.is h s.0) ∙ ap (λ o. after o (λ a. nothing_r (Some a))) (i.moves us h) })
+        record { read = i.read; is = i.is; moves = λ us h. cond-true _ _ _ (same_begin first true ts i.read rest us i.is h s.0) ∙ ap (λ o. after o (λ a. nothing_r (Some a))) (i.moves us h) })
         (λ s. let c = s.1 in absurd cc)
         (if_is (begins_with first ts) (mapped_r Some p ts) (Got None ts) (Bad rest) e);
   }
@@ -380,12 +375,12 @@ module _ {A : Type 0} {step : A → Form A} {step_r : A → Reader A} {first1 go
 
   stops_here : (m : ℕ) (a : A) (us : List Symbol) → begins_with first1 us ≡ false → repeats_in first1 step_r m a us ≡ Got a us
   stops_here zero a us h = refl
-  stops_here (suc m) a us h = if_false _ _ _ h
+  stops_here (suc m) a us h = cond-false _ _ _ h
 
   goes_on : (m : ℕ) (a b : A) (xs mid : List Symbol) (o : Outcome A) → length xs ≤ m → begins_with first1 xs ≡ true → length mid < length xs → step_r a xs ≡ Got b mid
       → ((n : ℕ) → length mid ≤ n → repeats_in first1 step_r n b mid ≡ o) → repeats_in first1 step_r m a xs ≡ o
   goes_on zero a b xs mid o le f lt e h = absurd (omega arith)
-  goes_on (suc m) a b xs mid o le f lt e h = if_true _ _ _ f ∙ ap (λ x. after x (repeats_in first1 step_r m)) e ∙ h m (omega arith)
+  goes_on (suc m) a b xs mid o le f lt e h = cond-true _ _ _ f ∙ ap (λ x. after x (repeats_in first1 step_r m)) e ∙ h m (omega arith)
 
   repeats_sound : (n : ℕ) (a c : A) (ts rest : List Symbol) → repeats_in first1 step_r n a ts ≡ Got c rest → Repeats step a ts c rest
   repeats_sound zero a c ts rest e = let i : a ≡ c = cc in let j : ts ≡ rest = cc in subst (λ c. Repeats step a ts c rest) i (subst (λ rest. Repeats step a ts a rest) j stop)
@@ -469,7 +464,7 @@ module _ {A : Type 0} {step : A → Form A} {step_r : A → Reader A} {first1 go
       bad_at : (m : ℕ) (xs us : List Symbol) → begins_with first1 xs ≡ true → length xs ≤ m → step_r a xs ≡ Bad us → repeats_in first1 step_r m a xs ≡ Bad us
       bad_at zero [] us f l e = absurd cc
       bad_at zero (k ∷ xs) us f l e = absurd (omega arith)
-      bad_at (suc m) xs us f l e = if_true _ _ _ f ∙ ap (λ x. after x (repeats_in first1 step_r m)) e
+      bad_at (suc m) xs us f l e = cond-true _ _ _ f ∙ ap (λ x. after x (repeats_in first1 step_r m)) e
 
   pub repeats_good : (a : A) → Good (Repeats step a) (repeats_r first1 step_r a) first1 (λ _. repeat_goes) true
   repeats_good a = record {

@@ -1,5 +1,6 @@
 -- Where a reader stops: the tokens before that place keep to the limits, and no beginning within the limits goes beyond it.
 use Rattle.std.proofs.Common.{◌≡◌, ℕ, zero, suc, ◌+◌, ◌≤◌, Bool, true, false, if◌then◌else◌, List, [], ◌∷◌, ◌++◌, Option, Some, None, ◌⊎◌, inl, inr, ⊎_elim, length, refl, sym, ap, ◌∙◌, subst, arith, append_assoc, append-nil, length-append}
+use Rattle.std.proofs.lemmas.Bool.{cond-true, cond-false}
 use Rattle.ooo_syntax.specs.declared.symbol.Symbol.{Symbol}
 use Rattle.ooo_grammar.specs.Sets.{Terminals, in_set}
 use Rattle.ooo_grammar.specs.Names.{begins}
@@ -7,7 +8,7 @@ use Rattle.ooo_grammar.specs.Forms.{Outcome, Got, Bad, Deep, Form, Reader, Front
 use Rattle.ooo_grammar.specs.Codes.{Code, nothing, token_of, pair, link, choice, maybe, many, mapped, within, deeper, outermost, refer}
 use Rattle.ooo_grammar.specs.Rules.{rules}
 use Rattle.ooo_grammar.specs.Readings.{Room, free, enter, fits, form, reader, front}
-use Rattle.ooo_grammar.proofs.Good.{SameHead, Good, Apart, if_is, if_true, if_false}
+use Rattle.ooo_grammar.proofs.Good.{SameHead, Good, Apart, if_is}
 use Rattle.ooo_grammar.proofs.Codes.{code_good, apart_back}
 use Rattle.ooo_grammar.proofs.Any.{gather, grows}
 use Rattle.ooo_grammar.proofs.Fronts.{cuts, moved, front_nil, code_begins, front_extends, enter_front}
@@ -173,14 +174,14 @@ either_passes : {A : Type 0} {S T : Front} {p q : Reader A} (first1 first2 : Sym
 either_passes {p = p} {q = q} first1 first2 s1 s2 short1 short2 pass1 pass2 [] us rest h d =
     ⊎_elim (λ i. short1 us rest i.1) (λ i. short2 us rest i.1) (if_is (begins_with first1 us) (p us) (q us) (Deep rest) d)
 either_passes {p = p} {q = q} first1 first2 s1 s2 short1 short2 pass1 pass2 (k ∷ xs) us rest (inl s) d =
-    pass1 (k ∷ xs) us rest s (sym (if_true (first1 k) (p (k ∷ (xs ++ us))) (q (k ∷ (xs ++ us))) (s1 k xs s)) ∙ d)
+    pass1 (k ∷ xs) us rest s (sym (cond-true (first1 k) (p (k ∷ (xs ++ us))) (q (k ∷ (xs ++ us))) (s1 k xs s)) ∙ d)
 either_passes {p = p} {q = q} first1 first2 s1 s2 short1 short2 pass1 pass2 (k ∷ xs) us rest (inr s) d =
-    pass2 (k ∷ xs) us rest s (sym (if_false (first1 k) (p (k ∷ (xs ++ us))) (q (k ∷ (xs ++ us))) (s2 k xs s)) ∙ d)
+    pass2 (k ∷ xs) us rest s (sym (cond-false (first1 k) (p (k ∷ (xs ++ us))) (q (k ∷ (xs ++ us))) (s2 k xs s)) ∙ d)
 
 maybe_passes : {A : Type 0} {S : Front} {p : Reader A} (first : Symbol → Bool) → ((k : Symbol) (xs : List Symbol) → S (k ∷ xs) → first k ≡ true) → ((ts rest : List Symbol) → p ts ≡ Deep rest → length rest ≤ length ts) → Passes S p → Passes S (maybe_r first p)
 maybe_passes {p = p} first s short pass [] us rest h d = ⊎_elim (λ i. short us rest (mapped_deep Some (p us) rest i.1)) (λ i. let c = i.1 in absurd cc) (if_is (begins_with first us) (mapped_r Some p us) (Got None us) (Deep rest) d)
 maybe_passes {p = p} first s short pass (k ∷ xs) us rest h d =
-    pass (k ∷ xs) us rest h (mapped_deep Some (p (k ∷ (xs ++ us))) rest (sym (if_true (first k) (mapped_r Some p (k ∷ (xs ++ us))) (Got None (k ∷ (xs ++ us))) (s k xs h)) ∙ d))
+    pass (k ∷ xs) us rest h (mapped_deep Some (p (k ∷ (xs ++ us))) rest (sym (cond-true (first k) (mapped_r Some p (k ∷ (xs ++ us))) (Got None (k ∷ (xs ++ us))) (s k xs h)) ∙ d))
 
 one_passes : {X : Type 0} (fits : Symbol → Bool) (test : Symbol → Option X) → Passes (One_b fits test) (one_r fits test)
 one_passes fits test [] us rest h d = let e = one_halts fits test us rest (inr d) in omega (arith, ap length e)
@@ -210,7 +211,7 @@ module _ {A : Type 0} {step : A → Form A} {step_r : A → Reader A} {front : A
       ⊎_elim
       (λ i. let x = stays a (k ∷ xs) us i.1 i.0 s i.2 in let y = short m i.0 i.1 rest i.3 in omega arith)
       (λ i. pass a (k ∷ xs) us rest s i)
-      (after_deep (step_r a (k ∷ (xs ++ us))) (repeats_in first step_r m) rest (sym (if_true (first k) (after (step_r a (k ∷ (xs ++ us))) (repeats_in first step_r m)) (Got a (k ∷ (xs ++ us))) (starts a k xs s)) ∙ d))
+      (after_deep (step_r a (k ∷ (xs ++ us))) (repeats_in first step_r m) rest (sym (cond-true (first k) (after (step_r a (k ∷ (xs ++ us))) (repeats_in first step_r m)) (Got a (k ∷ (xs ++ us))) (starts a k xs s)) ∙ d))
 
   pub repeats_passes : {a : A} {xs : List Symbol} → Repeats_b step front a xs → (m : ℕ) (us rest : List Symbol) → repeats_in first step_r m a (xs ++ us) ≡ Deep rest → length rest ≤ length us
   repeats_passes (none {a = a}) m us rest d = short m a us rest d
@@ -222,7 +223,7 @@ module _ {A : Type 0} {step : A → Form A} {step_r : A → Reader A} {front : A
       let there : step a (ts ++ us) b (k ∷ (mid ++ us)) = moved i.read (k ∷ mid) us ts (λ xs. step a xs b (k ∷ (mid ++ us))) i.is (i.moves (k ∷ (mid ++ us))) in
       let got = (good a).only there (far.apart k (begun_starts r k mid refl)) in
       let first' : begins_with first (ts ++ us) ≡ true = ⊎_elim (λ i. i) (λ i. let c = i.0 in absurd cc) ((good a).starts there) in
-      repeats_passes r m us rest (sym (if_true (begins_with first (ts ++ us)) (after (step_r a (ts ++ us)) (repeats_in first step_r m)) (Got a (ts ++ us)) first' ∙ ap (λ o. after o (repeats_in first step_r m)) got) ∙ d)
+      repeats_passes r m us rest (sym (cond-true (begins_with first (ts ++ us)) (after (step_r a (ts ++ us)) (repeats_in first step_r m)) (Got a (ts ++ us)) first' ∙ ap (λ o. after o (repeats_in first step_r m)) got) ∙ d)
 
 -- the room of a beginning serves for the whole
 enter_whole : (room : Room) (xs us : List Symbol) (S : Room → Type 0) → S (enter room xs) → (xs ≡ [] → S (enter room us)) → S (enter room (xs ++ us))

@@ -1,23 +1,18 @@
 -- How single symbols are joined, step by step.
 use Rattle.std.proofs.Common.{◌≡◌, Bool, true, false, cond, List, [], ◌∷◌, ◌++◌, Option, Some, None, refl, sym, ap, ◌∙◌, append-nil, append_assoc, map, All, ℕ}
+use Rattle.std.proofs.lemmas.Bool.{cond-true, cond-false}
 use Rattle.std.proofs.lemmas.List.Elements.{All-rest}
 use Rattle.ooo_lexer.specs.declared.token.Token.{Token}
 use Rattle.ooo_lexer.specs.Spans.{IsWithin}
 use Rattle.ooo_syntax.specs.declared.symbol.Symbol.{Symbol}
 use Rattle.ooo_symbols.specs.Symbols.{is_pair, begins_pair, with_pair, behind, joined}
 
-if_true : {A : Type 0} (b : Bool) (x y : A) → b ≡ true → cond b x y ≡ x
-if_true b x y e = rw e refl
-
-if_false : {A : Type 0} (b : Bool) (x y : A) → b ≡ false → cond b x y ≡ y
-if_false b x y e = rw e refl
-
 pub joined_pair : (p : Option Symbol) (k l : Symbol) (ks : List Symbol) → is_pair k l ≡ true → joined p (k ∷ l ∷ ks) ≡ joined (Some (with_pair p k l)) ks
-joined_pair p k l ks e = if_true (is_pair k l) _ _ e
+joined_pair p k l ks e = cond-true (is_pair k l) _ _ e
 
 pub joined_other : (p : Option Symbol) (k : Symbol) (ks : List Symbol) → begins_pair k ks ≡ false → joined p (k ∷ ks) ≡ behind p k ++ joined None ks
 joined_other p k [] e = sym (append-nil (behind p k))
-joined_other p k (l ∷ ks) e = if_false (is_pair k l) _ _ e
+joined_other p k (l ∷ ks) e = cond-false (is_pair k l) _ _ e
 
 -- ---- the loop's steps, where `made` are the symbols so far, and the pairs and the tokens are left
 

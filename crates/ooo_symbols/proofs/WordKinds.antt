@@ -2,7 +2,7 @@
 use Rattle.std.proofs.Common.{◌≡◌, ℕ, Bool, true, false, not, cond, List, [], ◌∷◌, Some, refl}
 use Rattle.std.specs.List.{list_all}
 use Rattle.std.specs.Str.{bytes_eq}
-use Rattle.std.proofs.lemmas.Bool.{and_parts}
+use Rattle.std.proofs.lemmas.Bool.{and_parts, not-true}
 use Rattle.std.proofs.lemmas.List.Elements.{All-contains}
 use Rattle.std.proofs.lemmas.List.Sums.{AllPass-from_list_all}
 use Rattle.ooo_lexer.specs.declared.token.TokenKind.TheVariants as kind
@@ -28,12 +28,8 @@ signs_are : list_all (λ bs. not (is_word (terminal_of kind.Sign bs))) forms.sig
 unfolding signs
 signs_are = refl
 
-not_true : (b : Bool) → not b ≡ true → b ≡ false
-not_true true e = absurd cc
-not_true false e = refl
-
 pub words_are_words : WordsAreWords
 words_are_words kind.Word bs is = written_word words bs words_are
 words_are_words kind.Number bs is = refl
 words_are_words kind.Text bs is = refl
-words_are_words kind.Sign bs is = not_true (is_word (terminal_of kind.Sign bs)) (All-contains (λ bs. not (is_word (terminal_of kind.Sign bs)) ≡ true) forms.signs bs (AllPass-from_list_all (λ bs. not (is_word (terminal_of kind.Sign bs))) forms.signs signs_are) is)
+words_are_words kind.Sign bs is = not-true (is_word (terminal_of kind.Sign bs)) (All-contains (λ bs. not (is_word (terminal_of kind.Sign bs)) ≡ true) forms.signs bs (AllPass-from_list_all (λ bs. not (is_word (terminal_of kind.Sign bs))) forms.signs signs_are) is)
