@@ -1,0 +1,2 @@
+//! Tests of what runs a design: what no clause says of `ooo_code`, `ooo_meaning`, `ooo_channels` and `ooo_interp`.
+#![tactic(auto)]

@@ -1,0 +1,2 @@
+//! Tests of names, calls and constants: what no clause says of `ooo_scopes`, `ooo_calls` and `ooo_constants`.
+#![tactic(auto)]
