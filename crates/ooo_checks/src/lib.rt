@@ -1,9 +1,13 @@
-//! Tests across crates: what no clause says.
+//! Tests across crates, and of the words and the messages: what no clause says.
 #![tactic(auto)]
 
 #[cfg(test)]
 mod calls;
 #[cfg(test)]
+mod messages;
+#[cfg(test)]
 mod names;
 #[cfg(test)]
 mod outside;
+#[cfg(test)]
+mod words;

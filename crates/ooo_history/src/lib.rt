@@ -5,8 +5,6 @@
 
 mod reporting;
 mod run;
-#[cfg(test)]
-mod tests;
 
 pub use reporting::{is_named, report};
 pub use run::{End, Entry, Piece, Run, What};

@@ -75,38 +75,3 @@ pub fn advance(s: Stamp, d: Delay) -> Stamp
         }
     }
 }
-
-#[cfg(test)]
-mod tests {
-    use super::*;
-
-    // Worked by hand: delta cycles add up within a time, and a later time begins them anew.
-    #[test]
-    fn delays_join_in_their_order(rt: HostRuntime) {
-        let late = Delay {
-            time: Time(5),
-            deltas: 2,
-        };
-        let delta = late.then(Delay::DELTA);
-        assert!(rt; delta.time == Time(5) && delta.deltas == 3);
-        let later = Delay::DELTA.then(late);
-        assert!(rt; later.time == Time(5) && later.deltas == 2);
-        assert!(rt; later.is_less(delta));
-        let stamp = advance(
-            Stamp {
-                time: Time(7),
-                delta: 4,
-            },
-            Delay::DELTA,
-        );
-        assert!(rt; stamp.time == Time(7) && stamp.delta == 5);
-        let stamp = advance(
-            Stamp {
-                time: Time(7),
-                delta: 4,
-            },
-            late,
-        );
-        assert!(rt; stamp.time == Time(12) && stamp.delta == 2);
-    }
-}

@@ -28,16 +28,3 @@ impl fmt::Display for Fault {
         f.write_str(self.name())
     }
 }
-
-#[cfg(test)]
-mod tests {
-    use super::*;
-    use std::test::Fail;
-
-    #[test]
-    fn writes_its_name(rt: HostRuntime) -> Result<(), Fail> {
-        let text = format!(in rt.alloc(); "{}", Fault::BadTime)?;
-        assert_eq!(rt; text.as_str(), "BadTime");
-        Ok(())
-    }
-}

@@ -31,6 +31,3 @@ pub use operators::{Fault, Op, binary};
 pub use text::append;
 pub use times::time_of;
 pub use values::{Value, convert, truth};
-
-#[cfg(test)]
-mod tests;

@@ -18,6 +18,3 @@ mod setting;
 pub use command::Command;
 pub use reader::read;
 pub use refused::{WordsBreach, WordsError, refusal};
-
-#[cfg(test)]
-mod tests;

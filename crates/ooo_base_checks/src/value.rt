@@ -8,12 +8,13 @@ mod quotients;
 mod single;
 mod sums;
 
-use crate::{
-    Fault, Kind, Name, Names, Op, Value, binary, common, convert, invert, negate, promoted,
+use ooo_time::{Scale, Time};
+use ooo_value::{
+    Fault, Kind, Name, Names, Op, Value, append, binary, common, convert, invert, negate, promoted,
     time_of, truth,
 };
-use ooo_time::{Scale, Time};
 use sqlite_items::Items;
+use std::alloc::AllocError;
 use std::cmp::Ordering;
 use std::process::Abort;
 use std::test::Fail;
@@ -138,5 +139,41 @@ fn names_keep_their_bytes(rt: HostRuntime) -> Result<(), Fail> {
     assert_eq!(rt; names.processes.len(), 1);
     let spelled = Name::from_bytes(b"m".to_vec(rt.alloc())?).into_bytes();
     assert_eq!(rt; spelled.as_slice(), b"m".as_slice());
+    Ok(())
+}
+
+// Worked by hand: the ends of each kind.
+#[test]
+fn prints_each_kind(rt: HostRuntime) -> Result<(), AllocError> {
+    let rows: [(Value, &str); 10] = [
+        (Value::Bool(false), "0"),
+        (Value::Bool(true), "1"),
+        (Value::Int(0), "0"),
+        (Value::Int(-2_147_483_648), "-2147483648"),
+        (Value::Int(2_147_483_647), "2147483647"),
+        (Value::Uint(4_294_967_295), "4294967295"),
+        (
+            Value::Long(-9_223_372_036_854_775_808),
+            "-9223372036854775808",
+        ),
+        (Value::Long(7), "7"),
+        (Value::Ulong(0), "0"),
+        (
+            Value::Ulong(18_446_744_073_709_551_615),
+            "18446744073709551615",
+        ),
+    ];
+    for (value, wanted) in rows {
+        let mut text = Vec::new(rt.alloc());
+        append(&mut text, value)?;
+        assert!(rt; text.as_slice() == wanted.as_bytes(), "{wanted}");
+    }
+    Ok(())
+}
+
+#[test]
+fn writes_its_name(rt: HostRuntime) -> Result<(), Fail> {
+    let text = format!(in rt.alloc(); "{}", Fault::BadTime)?;
+    assert_eq!(rt; text.as_str(), "BadTime");
     Ok(())
 }

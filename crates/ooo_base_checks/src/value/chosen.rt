@@ -1,9 +1,9 @@
 //! The cases that are easiest to get wrong. Made by tests_table/table.cpp.
 
 use super::BinaryRow;
-use crate::Fault::{DivideByZero, Overflow, ShiftRange};
-use crate::Op::*;
-use crate::Value::{Bool, Int, Long, Uint, Ulong};
+use ooo_value::Fault::{DivideByZero, Overflow, ShiftRange};
+use ooo_value::Op::*;
+use ooo_value::Value::{Bool, Int, Long, Uint, Ulong};
 
 // The cases that are easiest to get wrong.
 pub static CHOSEN: [BinaryRow; 24] = [

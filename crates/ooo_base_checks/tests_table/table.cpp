@@ -1,7 +1,7 @@
-// Writes the tables of src/tests: rows of operands with the values that C++ gives, or the name of
+// Writes the tables of src/value: rows of operands with the values that C++ gives, or the name of
 // the fault where C++ leaves the result undefined. Run in this folder, by:
 //
-//     g++ -std=c++20 -O0 -w -o table table.cpp && ./table ../src/tests && rm table && (cd .. && rt fmt)
+//     g++ -std=c++20 -O0 -w -o table table.cpp && ./table ../src/value && rm table && (cd .. && rt fmt)
 //
 // No undefined operation is executed: each is told apart by wider arithmetic first.
 #include <cstdint>
@@ -244,9 +244,9 @@ std::string capital(const std::string &name) {
 
 const char *binary_uses =
     "use super::BinaryRow;\n"
-    "use crate::Fault::{DivideByZero, Overflow, ShiftRange};\n"
-    "use crate::Op::*;\n"
-    "use crate::Value::{Bool, Int, Long, Uint, Ulong};\n";
+    "use ooo_value::Fault::{DivideByZero, Overflow, ShiftRange};\n"
+    "use ooo_value::Op::*;\n"
+    "use ooo_value::Value::{Bool, Int, Long, Uint, Ulong};\n";
 
 // The tables of the operators from one name up to before another.
 void operators(size_t from, size_t to) {
@@ -296,15 +296,15 @@ int main(int argc, char **argv) {
     file("bits", "Operators on bits, and shifts.", binary_uses);
     operators(5, 10);
     file("comparisons", "Comparisons.",
-         "use super::OrderRow;\nuse crate::Value::{Bool, Int, Long, Uint, Ulong};\nuse std::cmp::Ordering::{Equal, Greater, Less};\n");
+         "use super::OrderRow;\nuse ooo_value::Value::{Bool, Int, Long, Uint, Ulong};\nuse std::cmp::Ordering::{Equal, Greater, Less};\n");
     left_order_rows<Bool>(); left_order_rows<Int>(); left_order_rows<Uint>(); left_order_rows<Long>(); left_order_rows<Ulong>();
     flush("ORDERS", "OrderRow", "The edges of each two kinds, and their order in the common kind.");
     file("single", "Operators on one value.",
-         "use super::UnaryRow;\nuse crate::Fault::Overflow;\nuse crate::Value::{Bool, Int, Long, Uint, Ulong};\n");
+         "use super::UnaryRow;\nuse ooo_value::Fault::Overflow;\nuse ooo_value::Value::{Bool, Int, Long, Uint, Ulong};\n");
     unary_rows<Bool>(); unary_rows<Int>(); unary_rows<Uint>(); unary_rows<Long>(); unary_rows<Ulong>();
     flush("UNARY", "UnaryRow", "The edges of each kind.");
     file("conversions", "Conversions, and common kinds.",
-         "use super::{CommonRow, ConvertRow};\nuse crate::Kind;\nuse crate::Value::{Bool, Int, Long, Uint, Ulong};\n");
+         "use super::{CommonRow, ConvertRow};\nuse ooo_value::Kind;\nuse ooo_value::Value::{Bool, Int, Long, Uint, Ulong};\n");
     convert_rows<Bool>(); convert_rows<Int>(); convert_rows<Uint>(); convert_rows<Long>(); convert_rows<Ulong>();
     flush("CONVERSIONS", "ConvertRow", "The edges of each kind, in each kind.");
     common_rows<Bool>(); common_rows<Int>(); common_rows<Uint>(); common_rows<Long>(); common_rows<Ulong>();

@@ -1,8 +1,8 @@
 //! Operators on one value. Made by tests_table/table.cpp.
 
 use super::UnaryRow;
-use crate::Fault::Overflow;
-use crate::Value::{Bool, Int, Long, Uint, Ulong};
+use ooo_value::Fault::Overflow;
+use ooo_value::Value::{Bool, Int, Long, Uint, Ulong};
 
 // The edges of each kind.
 pub static UNARY: [UnaryRow; 53] = [

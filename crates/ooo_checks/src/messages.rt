@@ -1,9 +1,9 @@
-use crate::{
+use ooo_checked::TypeBreach;
+use ooo_lexer::LexBreach;
+use ooo_messages::{
     code_reason, elab_breach, elab_reason, lexer_breach, lexer_reason, parser_breach,
     parser_reason, segments_reason, stop_reason, types_breach, types_reason, words_reason,
 };
-use ooo_checked::TypeBreach;
-use ooo_lexer::LexBreach;
 use ooo_syntax::ParseBreach;
 use ooo_walk::ElabBreach;
 use ooo_words::WordsBreach;

@@ -1,8 +1,8 @@
 //! Conversions, and common kinds. Made by tests_table/table.cpp.
 
 use super::{CommonRow, ConvertRow};
-use crate::Kind;
-use crate::Value::{Bool, Int, Long, Uint, Ulong};
+use ooo_value::Kind;
+use ooo_value::Value::{Bool, Int, Long, Uint, Ulong};
 
 // The edges of each kind, in each kind.
 pub static CONVERSIONS: [ConvertRow; 265] = [

@@ -1,4 +1,4 @@
-use crate::{End, Entry, Piece, Run, What, is_named, report};
+use ooo_history::{End, Entry, Piece, Run, What, is_named, report};
 use ooo_time::{Place, Stamp, Time};
 use ooo_value::{Fault, Name, Names, Value};
 use sqlite_items::Items;

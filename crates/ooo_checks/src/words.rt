@@ -1,4 +1,4 @@
-use crate::{WordsError, read, refusal};
+use ooo_words::{WordsError, read, refusal};
 use std::alloc::Global;
 use std::test::Fail;
 

@@ -1,9 +1,9 @@
 //! Operators on bits, and shifts. Made by tests_table/table.cpp.
 
 use super::BinaryRow;
-use crate::Fault::{DivideByZero, Overflow, ShiftRange};
-use crate::Op::*;
-use crate::Value::{Bool, Int, Long, Uint, Ulong};
+use ooo_value::Fault::{DivideByZero, Overflow, ShiftRange};
+use ooo_value::Op::*;
+use ooo_value::Value::{Bool, Int, Long, Uint, Ulong};
 
 // The edges of each two kinds, by BitAnd.
 pub static BIT_AND: [BinaryRow; 25] = [

@@ -1,9 +1,9 @@
 //! Sums, differences and products. Made by tests_table/table.cpp.
 
 use super::BinaryRow;
-use crate::Fault::{DivideByZero, Overflow, ShiftRange};
-use crate::Op::*;
-use crate::Value::{Bool, Int, Long, Uint, Ulong};
+use ooo_value::Fault::{DivideByZero, Overflow, ShiftRange};
+use ooo_value::Op::*;
+use ooo_value::Value::{Bool, Int, Long, Uint, Ulong};
 
 // The edges of each two kinds, by Add.
 pub static ADD: [BinaryRow; 35] = [

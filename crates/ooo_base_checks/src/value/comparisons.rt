@@ -1,7 +1,7 @@
 //! Comparisons. Made by tests_table/table.cpp.
 
 use super::OrderRow;
-use crate::Value::{Bool, Int, Long, Uint, Ulong};
+use ooo_value::Value::{Bool, Int, Long, Uint, Ulong};
 use std::cmp::Ordering::{Equal, Greater, Less};
 
 // The edges of each two kinds, and their order in the common kind.
