@@ -23,8 +23,6 @@ mod marks;
 mod numbers;
 mod position;
 mod scan;
-#[cfg(test)]
-mod tests;
 mod texts;
 mod token;
 

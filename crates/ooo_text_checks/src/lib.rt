@@ -1,3 +1,6 @@
 //! Tests of how a text is read: what no clause says of `ooo_lexer`, `ooo_syntax`, `ooo_symbols`, `ooo_parser` and
 //! `ooo_printer`.
 #![tactic(auto)]
+
+#[cfg(test)]
+mod lexer;

@@ -1,7 +1,7 @@
 //! Sources with their tokens or their breach.
 
-use crate::NumberKind;
-use crate::tests::Case;
+use crate::lexer::Case;
+use ooo_lexer::NumberKind;
 
 // Spaces, words and what begins nothing.
 pub static SPACES: [Case; 13] = [

@@ -2,7 +2,7 @@
 
 mod table;
 
-use crate::{
+use ooo_lexer::{
     LexBreach, LexError, MOST_BYTES, Number, Position, Token, TokenKind, lex, position_of_end,
     read_number, unescape,
 };
