@@ -15,7 +15,5 @@ pub mod law;
 mod number;
 mod single;
 mod source;
-#[cfg(test)]
-mod tests;
 
 pub use source::symbols;

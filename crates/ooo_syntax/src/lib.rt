@@ -13,8 +13,6 @@ mod stat;
 mod symbol;
 mod table;
 mod terminal;
-#[cfg(test)]
-mod tests;
 mod unit;
 mod words;
 

@@ -4,3 +4,7 @@
 
 #[cfg(test)]
 mod lexer;
+#[cfg(test)]
+mod symbols;
+#[cfg(test)]
+mod syntax;

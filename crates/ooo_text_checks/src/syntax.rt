@@ -1,6 +1,7 @@
-use crate::terminal::Terminal;
-use crate::words::{is_reserved, terminal_of};
+//! Tokens and what they are to the grammar, and the words that no name may be.
+
 use ooo_lexer::TokenKind;
+use ooo_syntax::{Terminal, is_reserved, terminal_of};
 
 #[test]
 fn a_token_is_what_its_bytes_are(rt: HostRuntime) {
