@@ -15,8 +15,6 @@ mod parsing;
 mod readings;
 mod refusals;
 mod source;
-#[cfg(test)]
-mod tests;
 mod words;
 
 pub use parsing::{expression, sum};

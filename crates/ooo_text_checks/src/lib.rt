@@ -5,6 +5,8 @@
 #[cfg(test)]
 mod lexer;
 #[cfg(test)]
+mod parser;
+#[cfg(test)]
 mod symbols;
 #[cfg(test)]
 mod syntax;

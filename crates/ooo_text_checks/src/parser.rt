@@ -3,8 +3,8 @@
 mod table;
 mod texts;
 
-use crate::{expression, sum};
 use ooo_lexer::Position;
+use ooo_parser::{expression, sum};
 use ooo_syntax::{ParseBreach, ParseError, Symbol, Terminal};
 use ooo_value::Value;
 use std::alloc::{AllocError, Global};

@@ -1,8 +1,8 @@
 //! Whole texts, by their bytes.
 
 use super::table;
-use crate::parse;
 use ooo_lexer::{MOST_BYTES, lex};
+use ooo_parser::parse;
 use ooo_syntax::ParseError;
 use std::alloc::{AllocError, Global};
 use std::process::Abort;
