@@ -11,8 +11,6 @@ mod members;
 mod paper;
 mod setups;
 mod statements;
-#[cfg(test)]
-mod tests;
 mod times;
 mod units;
 

@@ -7,6 +7,8 @@ mod lexer;
 #[cfg(test)]
 mod parser;
 #[cfg(test)]
+mod printer;
+#[cfg(test)]
 mod symbols;
 #[cfg(test)]
 mod syntax;

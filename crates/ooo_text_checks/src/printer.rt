@@ -2,9 +2,9 @@
 
 mod table;
 
-use crate::print;
 use ooo_lexer::{MOST_BYTES, Token, TokenKind, lex, read_number, unescape};
 use ooo_parser::parse;
+use ooo_printer::print;
 use ooo_syntax::Unit;
 use std::alloc::{AllocError, Global};
 use std::process::Abort;
