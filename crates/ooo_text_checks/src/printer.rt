@@ -2,6 +2,7 @@
 
 mod table;
 
+use crate::frames::{EXPRESSION, FILE, Frame, MAIN, MEMBER, SETUP, STATEMENT, framed};
 use ooo_lexer::{MOST_BYTES, Token, TokenKind, lex, read_number, unescape};
 use ooo_parser::parse;
 use ooo_printer::print;
@@ -9,43 +10,6 @@ use ooo_syntax::Unit;
 use std::alloc::{AllocError, Global};
 use std::process::Abort;
 use std::test::Fail;
-
-/// What stands before and after a row in its text.
-#[derive(Clone, Copy)]
-struct Frame {
-    before: &'static str,
-    after: &'static str,
-}
-
-const FILE: Frame = Frame {
-    before: "",
-    after: "",
-};
-
-const MEMBER: Frame = Frame {
-    before: "SC_MODULE(M) {\n",
-    after: "\n};\nint sc_main(int, char*[]) {}\n",
-};
-
-const SETUP: Frame = Frame {
-    before: "SC_MODULE(M) { SC_CTOR(M) {\n",
-    after: "\n} };\nint sc_main(int, char*[]) {}\n",
-};
-
-const MAIN: Frame = Frame {
-    before: "int sc_main(int, char*[]) {\n",
-    after: "\n}\n",
-};
-
-const STATEMENT: Frame = Frame {
-    before: "SC_MODULE(M) { void f() {\n",
-    after: "\n} };\nint sc_main(int, char*[]) {}\n",
-};
-
-const EXPRESSION: Frame = Frame {
-    before: "SC_MODULE(M) { void f() { x =\n",
-    after: "\n; } };\nint sc_main(int, char*[]) {}\n",
-};
 
 /// A token by its kind and its bytes.
 #[derive(Clone, Copy)]
@@ -182,13 +146,6 @@ fn read(rt: &impl Abort, alloc: Global, source: &[u8], what: &str) -> Result<Uni
             rt.abort();
         }
     }
-}
-
-fn framed(alloc: Global, frame: Frame, body: &str) -> Result<Vec<u8>, AllocError> {
-    let mut text = Vec::from_slice(alloc, frame.before.as_bytes())?;
-    text.extend_from_slice(body.as_bytes())?;
-    text.extend_from_slice(frame.after.as_bytes())?;
-    Ok(text)
 }
 
 fn check_row(rt: &impl Abort, alloc: Global, frame: Frame, body: &str) -> Result<(), AllocError> {

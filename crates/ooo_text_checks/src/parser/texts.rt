@@ -1,49 +1,13 @@
 //! Whole texts, by their bytes.
 
 use super::table;
+use crate::frames::{EXPRESSION, FILE, Frame, MAIN, MEMBER, SETUP, STATEMENT, framed};
 use ooo_lexer::{MOST_BYTES, lex};
 use ooo_parser::parse;
 use ooo_syntax::ParseError;
 use std::alloc::{AllocError, Global};
 use std::process::Abort;
 use std::test::Fail;
-
-// What stands before and after a row in its text.
-#[derive(Clone, Copy)]
-struct Frame {
-    before: &'static str,
-    after: &'static str,
-}
-
-const FILE: Frame = Frame {
-    before: "",
-    after: "",
-};
-
-const MEMBER: Frame = Frame {
-    before: "SC_MODULE(M) {\n",
-    after: "\n};\nint sc_main(int, char*[]) {}\n",
-};
-
-const SETUP: Frame = Frame {
-    before: "SC_MODULE(M) { SC_CTOR(M) {\n",
-    after: "\n} };\nint sc_main(int, char*[]) {}\n",
-};
-
-const MAIN: Frame = Frame {
-    before: "int sc_main(int, char*[]) {\n",
-    after: "\n}\n",
-};
-
-const STATEMENT: Frame = Frame {
-    before: "SC_MODULE(M) { void f() {\n",
-    after: "\n} };\nint sc_main(int, char*[]) {}\n",
-};
-
-const EXPRESSION: Frame = Frame {
-    before: "SC_MODULE(M) { void f() { x =\n",
-    after: "\n; } };\nint sc_main(int, char*[]) {}\n",
-};
 
 // `ok`, or the breach and its line and column.
 fn outcome(rt: &impl Abort, alloc: Global, source: &[u8]) -> Result<Vec<u8>, AllocError> {
@@ -61,13 +25,6 @@ fn outcome(rt: &impl Abort, alloc: Global, source: &[u8]) -> Result<Vec<u8>, All
         }
         Err(ParseError::OutOfMemory) => Err(AllocError),
     }
-}
-
-fn framed(alloc: Global, frame: Frame, body: &str) -> Result<Vec<u8>, AllocError> {
-    let mut text = Vec::from_slice(alloc, frame.before.as_bytes())?;
-    text.extend_from_slice(body.as_bytes())?;
-    text.extend_from_slice(frame.after.as_bytes())?;
-    Ok(text)
 }
 
 fn check_row(
