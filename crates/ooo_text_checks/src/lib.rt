@@ -11,6 +11,6 @@ mod parser;
 #[cfg(test)]
 mod printer;
 #[cfg(test)]
-mod symbols;
+mod symbols_of_sources;
 #[cfg(test)]
 mod syntax;
