@@ -19,6 +19,3 @@ pub use expression::NodeExpr;
 pub use limits::Limits;
 pub use node::{Node, NodeKind, NodeTime, NodeWait};
 pub use segment::{Segment, SegmentEntry};
-
-#[cfg(test)]
-mod tests;

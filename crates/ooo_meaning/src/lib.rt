@@ -3,5 +3,3 @@
 #![tactic(auto)]
 
 pub mod law;
-#[cfg(test)]
-mod tests;

@@ -1,4 +1,4 @@
-use crate::law;
+use ooo_code::law;
 
 #[test]
 fn laws_hold() {

@@ -1,5 +1,5 @@
-use crate::law;
-use crate::law::Relation;
+use ooo_meaning::law;
+use ooo_meaning::law::Relation;
 
 // Equal places.
 struct Equal;
