@@ -66,7 +66,7 @@ module _ (ops : Operations) (now : Stamp) (f : Effect) (c : ℕ) (by : ChannelIs
   pub channel-here : is_on c f ≡ true → (cycle_of more c).channel ≡ channel_in now more c
   channel-here on = ap (λ (x : Cycle). x.channel) (cycle_of-on ops now f c on) ∙ sym (channel-on on)
 
-  pub on_by : is_on c f ≡ true → ChannelIsBy more c now
+  on_by : is_on c f ≡ true → ChannelIsBy more c now
   on_by on = subst (λ (x : Cycle). ¬ IsBefore now x.stamp) (sym (cycle_of-on ops now f c on)) (subst (λ (s : Stamp). ¬ IsBefore now s) (sym (stamp-cycle_by now (cycle_of ops c) by)) (IsBefore-irrefl now))
 
   pub channel-other : is_on c f ≡ false → channel_in now more c ≡ channel_in now ops c

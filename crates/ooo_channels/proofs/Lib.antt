@@ -24,4 +24,3 @@ pub mod Reaching
 pub mod Settling
 pub mod Beginning
 pub mod Showing
-pub mod Trials

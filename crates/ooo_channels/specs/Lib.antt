@@ -8,4 +8,3 @@ pub mod Kept
 pub mod Bank
 pub mod Apart
 pub mod Agreement
-pub mod Trials

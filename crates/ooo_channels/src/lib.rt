@@ -9,7 +9,5 @@ mod fifo;
 pub mod law;
 mod notices;
 mod signal;
-#[cfg(test)]
-mod tests;
 
 pub use bank::Bank;

@@ -1,5 +1,5 @@
 use Rattle.std.proofs.Common.{refl}
-use Rattle.ooo_channels.proofs.tests.Trial.takes.Goals as goal
+use Rattle.ooo_engine_checks.proofs.channels.Trial.takes.Goals as goal
 
 pub act-requires : goal.act-requires
 act-requires c = record {

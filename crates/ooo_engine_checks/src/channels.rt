@@ -1,10 +1,10 @@
 ghost use Rattle.std.specs.Prelude.{◌≡◌, ◌*◌, ◌≤◌, IfOk, OnOk, IsTrue};
 ghost use Rattle.ooo_meaning.specs.World.{zero_stamp};
 ghost use Rattle.ooo_channels.specs.Conditions.{FindsPlace, IsCountableStamp};
-ghost use Rattle.ooo_channels.specs.Trials.{trial_events, IsTrial, FitsTrial, MayTry};
+ghost use Rattle.ooo_engine_checks.specs.Trials.{trial_events, IsTrial, FitsTrial, MayTry};
 ghost use Rattle.ooo_value.specs.declared.bound.ChannelKind.TheVariants as channel;
 
-use crate::Bank;
+use ooo_channels::Bank;
 use ooo_code::{Design, Effect};
 use ooo_history::{Entry, What};
 use ooo_time::{Stamp, Time};

@@ -1,10 +1,10 @@
 use Rattle.ooo_channels.specs.Bank.{IsBankAfter}
 use Rattle.ooo_channels.specs.Operations.{no_operations}
-use Rattle.ooo_channels.specs.Trials.{IsTrial}
+use Rattle.ooo_engine_checks.specs.Trials.{IsTrial}
 use Rattle.ooo_meaning.specs.World.{zero_stamp}
 use Rattle.std.proofs.Common.{◌∙◌}
-use Rattle.ooo_channels.proofs.Trials.{begun, if_ok}
-use Rattle.ooo_channels.proofs.tests.begin.Goals as goal
+use Rattle.ooo_engine_checks.proofs.Trials.{begun, if_ok}
+use Rattle.ooo_engine_checks.proofs.channels.begin.Goals as goal
 
 pub returns : goal.returns
 returns c =

@@ -1,7 +1,7 @@
 use Rattle.std.proofs.Common.{arith}
 use Rattle.std.proofs.lemmas.Bool.Decides.{nat_tests}
-use Rattle.ooo_channels.proofs.Trials.{put_place, take_place}
-use Rattle.ooo_channels.proofs.tests.has_place.Goals as goal
+use Rattle.ooo_engine_checks.proofs.Trials.{put_place, take_place}
+use Rattle.ooo_engine_checks.proofs.channels.has_place.Goals as goal
 
 pub returns-in-Put : goal.returns-in-Put
 returns-in-Put c = λ trial some.

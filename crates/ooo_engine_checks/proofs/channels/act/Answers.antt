@@ -1,5 +1,5 @@
-use Rattle.ooo_channels.proofs.Trials.{tried, trial_may}
-use Rattle.ooo_channels.proofs.tests.act.Goals as goal
+use Rattle.ooo_engine_checks.proofs.Trials.{tried, trial_may}
+use Rattle.ooo_engine_checks.proofs.channels.act.Goals as goal
 
 pub returns : goal.returns
 returns c =

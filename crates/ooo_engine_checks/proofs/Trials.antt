@@ -1,30 +1,32 @@
 -- A bank with one channel, as the tests of the bank use it.
-use Rattle.std.proofs.Common.{◌≡◌, ℕ, zero, suc, ◌<◌, ◌++◌, Bool, true, false, arith, List, [], ◌∷◌, Some, None, refl, sym, subst, ap, ◌∙◌, append-nil, length}
+use Rattle.std.proofs.Common.{◌≡◌, ℕ, zero, suc, ◌<◌, ◌++◌, Bool, true, false, cond, arith, List, [], ◌∷◌, Option, Some, None, refl, sym, subst, ap, ◌∙◌, append-nil, length}
 use Rattle.std.specs.Prelude.{slice_get, Result, Ok, Err, IfOk, ◌≤◌}
+use Rattle.std.specs.List.{flat_map}
+use Rattle.std.proofs.lemmas.Grind.{flat_map-append}
+use Rattle.std.proofs.lemmas.List.Sums.{fold-append}
 use Rattle.ooo_time.specs.declared.stamp.Stamp.{Stamp}
-use Rattle.ooo_time.specs.Stamps.{IsBefore}
+use Rattle.ooo_time.specs.Stamps.{IsBefore, is_before}
 use Rattle.ooo_value.specs.declared.bound.BoundChannel.{BoundChannel}
 use Rattle.ooo_value.specs.declared.bound.BoundEvent.{BoundEvent}
 use Rattle.ooo_value.specs.declared.bound.BoundEvent.TheVariants as event
 use Rattle.ooo_value.specs.declared.bound.ChannelKind.{ChannelKind}
 use Rattle.ooo_value.specs.declared.bound.ChannelKind.TheVariants as channel
 use Rattle.ooo_value.specs.declared.values.Value.{Value}
+use Rattle.ooo_events.specs.declared.call.Call.{Call}
 use Rattle.ooo_events.specs.declared.call.Call.TheVariants as call
-use Rattle.ooo_events.specs.Calls.{Follows, last_stamp}
+use Rattle.ooo_events.specs.Calls.{Follows, last_stamp, stamp_of}
 use Rattle.ooo_code.specs.declared.activation.Effect.{Effect}
 use Rattle.ooo_code.specs.declared.activation.Effect.TheVariants as effect
-use Rattle.ooo_meaning.specs.World.{zero_stamp}
-use Rattle.ooo_channels.specs.Operations.{Operations, no_operations, after_effect, is_on, is_call_on}
-use Rattle.ooo_channels.specs.Cycles.{cycle_of, first_cycle, channel_in, readable, writable}
+use Rattle.ooo_meaning.specs.World.{entries_of, zero_stamp}
+use Rattle.ooo_channels.specs.Operations.{Operation, Operations, no_operations, after_effect, is_on, is_call_on}
+use Rattle.ooo_channels.specs.Cycles.{Cycle, cycle_of, cycle_at, cycle_after, cycle_step, later_channel, first_cycle, channel_in, readable, writable}
 use Rattle.ooo_channels.specs.Calls.{own_calls, own_call}
 use Rattle.ooo_channels.specs.Conditions.{HasChannel, HasEventAt, ChannelIsBy, Names, IsInOrder, FindsPlace, MayApply}
 use Rattle.ooo_channels.specs.Bank.{BankState, IsBankAfter}
-use Rattle.ooo_channels.specs.Trials.{trial_events, IsTrial, FitsTrial, MayTry}
-use Rattle.ooo_channels.proofs.Orders.{IsBefore-irrefl}
-use Rattle.ooo_channels.proofs.Steps.{operation, cycle_of-other, own_calls-after}
-use Rattle.ooo_channels.proofs.Apart.{own_none}
-use Rattle.ooo_channels.proofs.Firsts.{follows-push}
-use Rattle.ooo_channels.proofs.Agreeing.{on_by}
+use Rattle.ooo_engine_checks.specs.Trials.{trial_events, IsTrial, FitsTrial, MayTry}
+
+IsBefore-irrefl : (s : Stamp) → ¬ IsBefore s s
+IsBefore-irrefl s h = grind arith
 
 -- ---- a trial as it begins
 
@@ -91,6 +93,48 @@ take_place channel.Fifo bank last now t c f n is fits there some =
     (subst (λ d. 1 ≤ length (readable (channel_in now t.ops d))) (sym zero_is)
     (subst (λ m. 1 ≤ m) (there t.ops t.after (trial_channel channel.Fifo bank last t)) some))
 
+-- ---- one more operation
+
+abbrev operation : Stamp → Effect → Operation
+operation at f = record { at = at; effect = f }
+
+cycle_of-after : (ops : Operations) (at : Stamp) (f : Effect) (c : ℕ) → cycle_of (after_effect at ops f) c ≡ cycle_step c (cycle_of ops c) (operation at f)
+unfolding cycle_of
+cycle_of-after ops at f c = fold-append (cycle_step c) _ ops.applied (operation at f ∷ [])
+
+own_calls-after : (ops : Operations) (at : Stamp) (f : Effect) (e : ℕ) → own_calls (after_effect at ops f) e ≡ own_calls ops e ++ own_call e (operation at f)
+unfolding own_calls
+own_calls-after ops at f e = flat_map-append (own_call e) ops.applied (operation at f ∷ []) ∙ ap (λ cs. flat_map (own_call e) ops.applied ++ cs) (append-nil (own_call e (operation at f)))
+
+-- a channel whose cycle isn't later than a stamp isn't later in the cycle of that stamp, nor after an operation there
+by_here : (at : Stamp) (x : Cycle) → ¬ IsBefore at x.stamp → ¬ IsBefore at (cycle_at at x).stamp
+by_here at x by = go (is_before x.stamp at) where
+  go : (b : Bool) → ¬ IsBefore at (cond b (record { stamp = at; channel = later_channel at x; history = x.history ++ entries_of x.stamp x.channel }) x).stamp
+  go true = IsBefore-irrefl at
+  go false = by
+
+by_after : (at : Stamp) (f : Effect) (c : ℕ) (x : Cycle) → ¬ IsBefore at x.stamp → ¬ IsBefore at (cycle_step c x (operation at f)).stamp
+by_after at f c x by = go (is_on c f) where
+  go : (b : Bool) → ¬ IsBefore at (cond b (cycle_after x (operation at f)) x).stamp
+  go true = by_here at x by
+  go false = by
+
+own_none : (e : ℕ) (at : Stamp) (f : Effect) → is_call_on e f ≡ false → own_call e (operation at f) ≡ []
+own_none e at (effect.Request d v) not = refl
+own_none e at (effect.Put d v) not = refl
+own_none e at (effect.Take d) not = refl
+own_none e at (effect.Notify d k) not = rw not refl
+own_none e at (effect.Cancel d) not = rw not refl
+own_none e at effect.Stop not = refl
+
+-- no call is later than a stamp at which the last one is
+last_stamp-push : (last : Option Stamp) (calls : List Call) (c : Call) → last_stamp last (calls ++ c ∷ []) ≡ Some (stamp_of c)
+last_stamp-push last [] c = refl
+last_stamp-push last (d ∷ ds) c = last_stamp-push (Some (stamp_of d)) ds c
+
+follows-push : (calls : List Call) (c : Call) (now : Stamp) → stamp_of c ≡ now → Follows (last_stamp None (calls ++ c ∷ [])) now
+follows-push calls c now e = λ s f. let g : now ≡ s = cc (last_stamp-push None calls c) in subst (λ x. ¬ IsBefore now x) g (IsBefore-irrefl now)
+
 -- ---- an effect
 
 names_trial : (k : ChannelKind) (ops : Operations) (f : Effect) → HasChannel ops 0 k → slice_get ops.events 3 ≡ Some event.Own → FitsTrial k f → Names ops f
@@ -141,9 +185,8 @@ module _ (k : ChannelKind) (bank : BankState) (last at : Stamp) (f : Effect) (ma
   pub trial_may : MayApply ops at f
   trial_may = record { names = trial_names; in_order = in_order_trial k ops at f later_by later_own may.fits; place = may.place }
 
-  next_by : (b : Bool) → is_on 0 f ≡ b → ChannelIsBy (after_effect at ops f) 0 at
-  next_by true on = on_by ops at f 0 later_by on
-  next_by false off = subst (λ x. ¬ IsBefore at x.stamp) (sym (cycle_of-other ops at f 0 off)) later_by
+  next_by : ChannelIsBy (after_effect at ops f) 0 at
+  next_by = subst (λ (x : Cycle). ¬ IsBefore at x.stamp) (sym (cycle_of-after ops at f 0)) (by_after at f 0 (cycle_of ops 0) later_by)
 
   next_own : (g : Effect) → Follows (last_stamp None (own_calls ops 3 ++ own_call 3 (operation at g))) at
   next_own g = go (is_call_on 3 g) refl where
@@ -166,6 +209,6 @@ module _ (k : ChannelKind) (bank : BankState) (last at : Stamp) (f : Effect) (ma
     channels = may.trial.channels;
     is = may.trial.is;
     events = may.trial.events;
-    by = next_by (is_on 0 f) refl;
+    by = next_by;
     own_by = subst (λ cs. Follows (last_stamp None cs) at) (sym (own_calls-after ops at f 3)) (next_own f);
   }
