@@ -1,1 +1,2 @@
+pub mod SmallJob
 pub mod Trials

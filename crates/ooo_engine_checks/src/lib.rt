@@ -6,4 +6,6 @@ mod channels;
 #[cfg(test)]
 mod code;
 #[cfg(test)]
+mod interp;
+#[cfg(test)]
 mod meaning;

@@ -10,4 +10,3 @@ pub mod Placed
 pub mod Stable
 pub mod Views
 pub mod JobLemmas
-pub mod SmallJob

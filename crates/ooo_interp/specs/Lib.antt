@@ -4,4 +4,3 @@ pub mod Running
 pub mod Ports
 pub mod Carrying
 pub mod Jobs
-pub mod SmallJob

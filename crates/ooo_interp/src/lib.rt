@@ -45,6 +45,3 @@ pub use processes::{LentEnd, Ran, Start, run_process};
 pub use running::{End, run_nodes};
 pub use segments::run_segment;
 pub use whole::Whole;
-
-#[cfg(test)]
-mod tests;

@@ -72,7 +72,7 @@ pub fn run_segment(alloc: Global, job: Job) -> Result<Done, AllocError>
 }
 
 // How an activation ended, with a copy of the events that it waits for.
-pub(crate) fn own_end(alloc: Global, end: LentEnd<'_>) -> Result<JobEnd, AllocError>
+fn own_end(alloc: Global, end: LentEnd<'_>) -> Result<JobEnd, AllocError>
     ensures { IfOk result (λ own. own ≡ job_end end.entry) }
 {
     match end {

@@ -1,11 +1,11 @@
 //! The segment of a job.
 
 ghost use Rattle.std.specs.Prelude.{◌≡◌, IfOk};
-ghost use Rattle.ooo_interp.specs.SmallJob.{IsSmall, small_design};
+ghost use Rattle.ooo_engine_checks.specs.SmallJob.{IsSmall, small_design};
 
 use super::{MANY, is_over};
-use crate::{Job, run_segment};
 use ooo_code::{Design, Frame, Node, NodeKind, Proc, SegmentEntry};
+use ooo_interp::{Job, run_segment};
 use ooo_time::{Stamp, Time};
 use ooo_value::{BoundVariable, Kind, ProcessKind, Value};
 use sqlite_items::Items;

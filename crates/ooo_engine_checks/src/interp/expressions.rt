@@ -1,8 +1,8 @@
 //! What each form of expression gives.
 
 use super::{Code, MANY, add_port, binary, cells, fifo, int, ints, locals, printed};
-use crate::{Port, Whole};
 use ooo_code::{NodeExpr, NodeKind};
+use ooo_interp::{Port, Whole};
 use ooo_value::{Kind, Op, Value};
 use sqlite_items::Boxed;
 use std::alloc::{AllocError, Global};

@@ -8,11 +8,10 @@ mod node_kinds;
 mod segments;
 mod waits;
 
-use crate::segments::own_end;
-use crate::{FifoPort, Port, Ports, Ran, Room, Start, Whole, run_process};
 use ooo_code::{
     Cells, Design, Effect, JobEnd, Node, NodeExpr, NodeKind, Proc, SegmentEntry, WaitOn,
 };
+use ooo_interp::{FifoPort, LentEnd, Port, Ports, Ran, Room, Start, Whole, run_process};
 use ooo_time::{Stamp, Time};
 use ooo_value::{Fault, Op, ProcessKind, Value};
 use sqlite_items::{Boxed, Items};
@@ -187,6 +186,22 @@ pub fn run_from(
         effects,
         end: own_end(alloc, end)?,
     })
+}
+
+/// How an activation ended, apart from its design.
+fn own_end(alloc: Global, end: LentEnd<'_>) -> Result<JobEnd, AllocError> {
+    match end {
+        LentEnd::Waits(pause) => {
+            let events = Items::from_slice(alloc, pause.events.as_slice())?;
+            Ok(JobEnd::Waits(WaitOn {
+                time: pause.time,
+                events,
+            }))
+        }
+        LentEnd::Ended => Ok(JobEnd::Ended),
+        LentEnd::Faulted(fault, line) => Ok(JobEnd::Faulted(fault, line)),
+        LentEnd::Limit(line) => Ok(JobEnd::Limit(line)),
+    }
 }
 
 /// The first process from an entry, at 10 ns.

@@ -4,8 +4,8 @@ use super::{
     Code, MANY, add_port, are_ints, binary, cells, has_cells, int, is_over, locals, printed,
     start_from,
 };
-use crate::{Port, Ran, Room, run_process};
 use ooo_code::{Design, Effect, NodeExpr, NodeKind, NodeTime, SegmentEntry};
+use ooo_interp::{Port, Ran, Room, run_process};
 use ooo_time::{Scale, Time};
 use ooo_value::{Op, ProcessKind, Value};
 use sqlite_items::Boxed;

@@ -15,7 +15,7 @@ use Rattle.ooo_code.specs.Touches.{Touch, Reads, Writes, ReadsSignal, WritesSign
 use Rattle.ooo_interp.specs.declared.job.Job.{Job}
 use Rattle.ooo_interp.specs.Carrying.{IsAscending, listed}
 use Rattle.ooo_interp.specs.Jobs.{Fits, FitsCarried, FitsFrame, FitsProcess, FitsSeen, Touched, number_seen}
-use Rattle.ooo_interp.specs.SmallJob.{IsSmall, small_design, small_nodes, small_process, small_variable}
+use Rattle.ooo_engine_checks.specs.SmallJob.{IsSmall, small_design, small_nodes, small_process, small_variable}
 
 first_alone : {A : Type 0} (x y : A) (n : ℕ) → slice_get (x ∷ []) n ≡ Some y → n ≡ 0
 first_alone x y zero h = refl
