@@ -30,7 +30,7 @@ pub fn sets(alloc: Global, design: &Design, segment: &Segment) -> Result<Access,
 }
 
 // The access of a segment of a process, by its nodes.
-pub(crate) fn gather(
+fn gather(
     alloc: Global,
     design: &Design,
     process: &Proc,

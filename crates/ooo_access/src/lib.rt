@@ -17,6 +17,3 @@ mod waiting;
 
 pub use access::Access;
 pub use gathering::sets;
-
-#[cfg(test)]
-mod tests;

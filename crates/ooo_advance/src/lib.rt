@@ -13,6 +13,3 @@ mod search;
 mod table;
 
 pub use table::AdvanceTable;
-
-#[cfg(test)]
-mod tests;

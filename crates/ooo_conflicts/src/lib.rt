@@ -13,6 +13,3 @@ mod sharing;
 mod table;
 
 pub use table::ClashTable;
-
-#[cfg(test)]
-mod tests;

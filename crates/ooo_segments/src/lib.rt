@@ -25,6 +25,3 @@ pub use error::GraphError;
 pub use graphs::{Edge, Graph};
 pub use making::{graph, graph_of_closed};
 pub use numbers::NumberSet;
-
-#[cfg(test)]
-mod tests;

@@ -126,7 +126,8 @@ pub(crate) fn design_on_lines(
     })
 }
 
-fn process_of(alloc: Global, part: Part) -> Result<Proc, AllocError> {
+/// The process that is told.
+pub(crate) fn process_of(alloc: Global, part: Part) -> Result<Proc, AllocError> {
     Ok(Proc {
         kind: part.kind,
         first: part.first,

@@ -1,35 +1,39 @@
-use crate::gathering::gather;
-use ooo_code::{Design, Node, NodeExpr, NodeKind, NodeTime, NodeWait, Proc, Segment, SegmentEntry};
+//! The access of a segment that touches something in each way.
+
+use crate::closed::are_closed;
+use crate::tables::tables_of;
+use ooo_code::{Design, Node, NodeExpr, NodeKind, NodeTime, NodeWait, Proc};
 use ooo_time::{Scale, Time};
 use ooo_value::{BoundEvent, ProcessKind, Value};
 use sqlite_items::{Boxed, Items};
 use std::alloc::{AllocError, Global};
 use std::test::Fail;
 
-fn push(nodes: &mut Items<Node>, kind: NodeKind) -> Result<(), AllocError> {
+fn push(nodes: &mut Items<Node>, next: u32, kind: NodeKind) -> Result<(), AllocError> {
     nodes.push(Node {
         kind,
         line: 1,
         counts: true,
-        next: 0,
+        next,
     })
 }
 
-// One node of each kind that touches something.
+// One node of each kind that touches something, one after another, and the end.
 fn nodes(alloc: Global) -> Result<Items<Node>, AllocError> {
     let mut nodes = Items::new(alloc);
     let index = Some(NodeExpr::Variable(1));
-    push(&mut nodes, NodeKind::Store(3, index, NodeExpr::Slot(0)))?;
-    push(&mut nodes, NodeKind::Write(0, NodeExpr::Signal(1)))?;
-    push(&mut nodes, NodeKind::Test(NodeExpr::Edge(2, true), 5))?;
-    push(&mut nodes, NodeKind::Take(4, 0))?;
+    push(&mut nodes, 1, NodeKind::Store(3, index, NodeExpr::Slot(0)))?;
+    push(&mut nodes, 2, NodeKind::Write(0, NodeExpr::Signal(1)))?;
+    push(&mut nodes, 3, NodeKind::Test(NodeExpr::Edge(2, true), 5))?;
+    push(&mut nodes, 4, NodeKind::Take(4, 0))?;
     push(
         &mut nodes,
+        5,
         NodeKind::Put(5, NodeExpr::Constant(Value::Int(1))),
     )?;
-    push(&mut nodes, NodeKind::Notify(0, NodeTime::Fixed(Time(7))))?;
-    push(&mut nodes, NodeKind::Notify(0, NodeTime::Fixed(Time(0))))?;
-    push(&mut nodes, NodeKind::Cancel(9))?;
+    push(&mut nodes, 6, NodeKind::Notify(0, NodeTime::Fixed(Time(7))))?;
+    push(&mut nodes, 7, NodeKind::Notify(0, NodeTime::Fixed(Time(0))))?;
+    push(&mut nodes, 8, NodeKind::Cancel(9))?;
     let amount = NodeExpr::Negate(Boxed::new(alloc, NodeExpr::Variable(2))?);
     let mut events = Items::new(alloc);
     events.push(3)?;
@@ -38,7 +42,8 @@ fn nodes(alloc: Global) -> Result<Items<Node>, AllocError> {
         events,
         is_static: false,
     };
-    push(&mut nodes, NodeKind::Wait(wait))?;
+    push(&mut nodes, 9, NodeKind::Wait(wait))?;
+    push(&mut nodes, 0, NodeKind::End)?;
     Ok(nodes)
 }
 
@@ -61,30 +66,31 @@ fn process(alloc: Global) -> Result<Proc, AllocError> {
     Ok(Proc {
         kind: ProcessKind::Thread,
         first: 0,
-        end: 9,
+        end: 10,
         slots: Items::new(alloc),
         sensitive: Items::from_slice(alloc, &[6, 2])?,
         initialize: false,
     })
 }
 
-// Worked by hand: each list holds what the nodes touch, once and in order.
+// Worked by hand: each list holds what the nodes touch, once and in order. Behind the wait nothing is touched.
 #[test]
 fn lists_what_the_nodes_touch(rt: HostRuntime) -> Result<(), Fail> {
     let alloc = rt.alloc();
+    let mut processes = Items::new(alloc);
+    processes.push(process(alloc)?)?;
     let design = Design {
         nodes: nodes(alloc)?,
-        processes: Items::new(alloc),
+        processes,
         variables: Items::new(alloc),
         channels: Items::new(alloc),
         events: events(alloc)?,
     };
-    let start = Segment {
-        process: 0,
-        entry: SegmentEntry::Start,
-        nodes: Items::from_slice(alloc, &[0, 1, 2, 3, 4, 5, 6, 7, 8])?,
-    };
-    let access = gather(alloc, &design, &process(alloc)?, &start)?;
+    assert!(rt; are_closed(&design));
+    let tables = tables_of(alloc, &design)?;
+    let segments = tables.access.as_slice();
+    assert_eq!(rt; segments.len(), 2);
+    let access = &segments[0];
     assert_eq!(rt; access.read.as_slice(), [1, 2].as_slice());
     assert_eq!(rt; access.written.as_slice(), [3].as_slice());
     assert_eq!(rt; access.signals_read.as_slice(), [1, 2].as_slice());
@@ -99,12 +105,7 @@ fn lists_what_the_nodes_touch(rt: HostRuntime) -> Result<(), Fail> {
     assert!(rt; notified[2] == (1, None) && notified[3] == (2, None));
     assert!(rt; notified[4] == (3, None) && notified[5] == (4, None));
     assert!(rt; notified[6] == (5, None));
-    let after = Segment {
-        process: 0,
-        entry: SegmentEntry::After(8),
-        nodes: Items::new(alloc),
-    };
-    let access = gather(alloc, &design, &process(alloc)?, &after)?;
+    let access = &segments[1];
     assert_eq!(rt; access.waited.as_slice(), [3].as_slice());
     assert!(rt; access.read.is_empty() && access.notified.is_empty());
     Ok(())

@@ -3,8 +3,8 @@ ghost use Rattle.ooo_time.specs.Scales.{greatest_time};
 ghost use Rattle.ooo_access.specs.Access.{IsInOrder};
 ghost use Rattle.ooo_segments.specs.Edges.{IsLink};
 
-use crate::AdvanceTable;
 use ooo_access::Access;
+use ooo_advance::AdvanceTable;
 use ooo_segments::{Edge, Graph};
 use ooo_time::{Delay, Time};
 use sqlite_items::Items;

@@ -1,9 +1,13 @@
-use crate::waits::delay_of;
-use crate::{GraphError, NumberSet};
-use ooo_code::{NodeExpr, NodeTime, NodeWait};
+//! Sets of numbers, the delays of waits, and the name of a refusal.
+
+use crate::closed::are_closed;
+use crate::sketch::{process_of, thread};
+use ooo_code::{Design, Node, NodeExpr, NodeKind, NodeTime, NodeWait};
+use ooo_segments::{Edge, GraphError, NumberSet, graph_of_closed};
 use ooo_time::{Delay, Scale, Time};
 use ooo_value::Value;
 use sqlite_items::Items;
+use std::alloc::{AllocError, Global};
 use std::test::Fail;
 
 #[test]
@@ -22,6 +26,32 @@ fn sets_list_their_numbers_in_order(rt: HostRuntime) -> Result<(), Fail> {
     Ok(())
 }
 
+fn node(kind: NodeKind, next: u32) -> Node {
+    Node {
+        kind,
+        line: 1,
+        counts: true,
+        next,
+    }
+}
+
+// A thread of five nodes.
+fn thread_of(alloc: Global, nodes: Items<Node>) -> Result<Design, AllocError> {
+    let mut processes = Items::new(alloc);
+    processes.push(process_of(alloc, thread(0, 5))?)?;
+    Ok(Design {
+        nodes,
+        processes,
+        variables: Items::new(alloc),
+        channels: Items::new(alloc),
+        events: Items::new(alloc),
+    })
+}
+
+fn edge(from: u32, to: u32, delay: Delay) -> Edge {
+    Edge { from, to, delay }
+}
+
 // Worked by hand: a constant time above zero alone is the wait's delay, and every other wait takes one delta cycle.
 #[test]
 fn waits_take_a_time_or_one_delta(rt: HostRuntime) -> Result<(), Fail> {
@@ -31,21 +61,17 @@ fn waits_take_a_time_or_one_delta(rt: HostRuntime) -> Result<(), Fail> {
         events: Items::new(alloc),
         is_static: false,
     };
-    let delay = delay_of(&five);
-    assert!(rt; delay.time == Time(5) && delay.deltas == 0);
     let zero = NodeWait {
         time: Some(NodeTime::Fixed(Time(0))),
         events: Items::new(alloc),
         is_static: false,
     };
-    assert!(rt; delay_of(&zero) == Delay::DELTA);
     let amount = NodeExpr::Constant(Value::Int(5));
     let computed = NodeWait {
         time: Some(NodeTime::Amount(amount, Scale::Ns)),
         events: Items::new(alloc),
         is_static: false,
     };
-    assert!(rt; delay_of(&computed) == Delay::DELTA);
     let mut events = Items::new(alloc);
     events.push(3)?;
     let either = NodeWait {
@@ -53,7 +79,23 @@ fn waits_take_a_time_or_one_delta(rt: HostRuntime) -> Result<(), Fail> {
         events,
         is_static: false,
     };
-    assert!(rt; delay_of(&either) == Delay::DELTA);
+    let mut nodes = Items::new(alloc);
+    nodes.push(node(NodeKind::Wait(five), 1))?;
+    nodes.push(node(NodeKind::Wait(zero), 2))?;
+    nodes.push(node(NodeKind::Wait(computed), 3))?;
+    nodes.push(node(NodeKind::Wait(either), 4))?;
+    nodes.push(node(NodeKind::End, 0))?;
+    let design = thread_of(alloc, nodes)?;
+    assert!(rt; are_closed(&design));
+    let graph = graph_of_closed(alloc, &design)?;
+    let time = Time(5);
+    let edges = [
+        edge(0, 1, Delay { time, deltas: 0 }),
+        edge(1, 2, Delay::DELTA),
+        edge(2, 3, Delay::DELTA),
+        edge(3, 4, Delay::DELTA),
+    ];
+    assert_eq!(rt; graph.edges.as_slice(), edges.as_slice());
     assert_eq!(rt; GraphError::TooManySegments.name(), "TooManySegments");
     Ok(())
 }

@@ -2,7 +2,7 @@ use Rattle.std.proofs.Common.{arith}
 use Rattle.std.proofs.lemmas.List.{length_push}
 use Rattle.std.proofs.lemmas.List.Elements.{All-push}
 use Rattle.ooo_access.specs.Access.{IsInOrder}
-use Rattle.ooo_advance.proofs.tests.four.Goals as goal
+use Rattle.ooo_tables_checks.proofs.advance.four.Goals as goal
 
 pub loop-k-preserved : goal.loop-k-preserved
 loop-k-preserved c =
