@@ -69,7 +69,7 @@ impl Calls {
 }
 
 // A number above that of each function that occurs in the calls. Above the greatest number there is none.
-pub(crate) fn count_functions(calls: &[Call]) -> Result<usize, AllocError>
+fn count_functions(calls: &[Call]) -> Result<usize, AllocError>
     ensures { IfOk result (λ count. AreBelow count calls.now) }
 {
     let mut count = 0usize;

@@ -17,8 +17,6 @@ mod claim;
 mod closure;
 mod marks;
 mod search;
-#[cfg(test)]
-mod tests;
 
 pub use call::Call;
 pub use calls::Calls;

@@ -22,6 +22,3 @@ pub use meaning::Meaning;
 pub use names::constant_at;
 pub use times::{TimeBreach, is_fixed, is_fixed_time, place, time};
 pub use values::{operator, value};
-
-#[cfg(test)]
-mod tests;

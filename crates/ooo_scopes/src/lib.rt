@@ -12,7 +12,5 @@
 mod names;
 mod places;
 mod scopes;
-#[cfg(test)]
-mod tests;
 
 pub use scopes::Scopes;

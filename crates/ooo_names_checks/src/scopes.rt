@@ -1,7 +1,7 @@
 //! A small table of blocks and names, by hand.
 
-use crate::Scopes;
 use ooo_checked::{Denotation, Thing};
+use ooo_scopes::Scopes;
 use std::test::Fail;
 
 const NOTHING: Denotation = Denotation {

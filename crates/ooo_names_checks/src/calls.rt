@@ -1,9 +1,10 @@
-//! Tables of calls, worked by hand, for the search and for the closure; all calls among a few functions, where the claim
-//! of the search has to be right, since the time rests on that; and long rows of calls.
+//! Tables of calls, worked by hand; all calls among a few functions; and many calls.
+//!
+//! The time rests on that the claim of the search is right: where it isn't, the answers take a time that grows with the
+//! third power of the number of calls, which is days for a long row of them, and hours for all calls among a few functions
+//! side by side.
 
-use crate::calls::count_functions;
-use crate::search::search;
-use crate::{Call, Calls, closure};
+use ooo_calls::{Call, Calls};
 use std::alloc::{AllocError, Global};
 use std::process::Abort;
 use std::test::Fail;
@@ -11,7 +12,7 @@ use std::test::Fail;
 // A call, and whether it lies on a cycle.
 type Row = (usize, usize, bool);
 
-// What the search and the closure say of some calls is what the rows say.
+// What is answered of some calls is what the rows say.
 fn check(rt: &impl Abort, alloc: Global, rows: &[Row]) -> Result<(), Fail> {
     let mut calls = Vec::new(alloc);
     for (from, to, _) in rows {
@@ -21,18 +22,10 @@ fn check(rt: &impl Abort, alloc: Global, rows: &[Row]) -> Result<(), Fail> {
         })?;
     }
     let answers = Calls::make(alloc, calls.as_slice())?;
-    let count = count_functions(calls.as_slice())?;
-    let slow = closure::calls_on_cycle(alloc, calls.as_slice(), count)?;
     for (i, row) in rows.iter().enumerate() {
         assert_eq!(rt; answers.is_on_cycle(i), Some(row.2), "call {i}");
-        assert_eq!(rt;
-            slow.get(i).copied(),
-            Some(row.2),
-            "call {i} by the closure"
-        );
     }
     assert_eq!(rt; answers.is_on_cycle(rows.len()), None);
-    assert_eq!(rt; slow.len(), rows.len());
     Ok(())
 }
 
@@ -172,28 +165,77 @@ fn chosen(
     Ok(calls)
 }
 
+// Whether calls lead from a function to another one, or back to itself by none, found round by round.
+fn leads(alloc: Global, calls: &[Call], from: usize, to: usize) -> Result<bool, AllocError> {
+    let mut reached = Vec::new(alloc);
+    reached.push(from)?;
+    for _round in 0..calls.len() {
+        for call in calls {
+            if reached.contains(&call.from) && !reached.contains(&call.to) {
+                reached.push(call.to)?;
+            }
+        }
+    }
+    Ok(reached.contains(&to))
+}
+
 #[test]
-fn the_search_is_right_among_few_functions(rt: HostRuntime) -> Result<(), Fail> {
+fn the_answers_are_right_among_few_functions(rt: HostRuntime) -> Result<(), Fail> {
     for choice in 0..512u32 {
         let calls = chosen(rt.alloc(), 3, true, choice)?;
-        let count = count_functions(calls.as_slice())?;
-        let claim = search(rt.alloc(), calls.as_slice(), count)?;
-        assert!(rt; claim.is_right(calls.as_slice()), "choice {choice}");
-        let slow = closure::calls_on_cycle(rt.alloc(), calls.as_slice(), count)?;
         let answers = Calls::make(rt.alloc(), calls.as_slice())?;
-        for (i, answer) in slow.iter().enumerate() {
-            assert_eq!(rt; answers.is_on_cycle(i), Some(*answer), "choice {choice}");
+        for (i, call) in calls.iter().enumerate() {
+            let comes_back = leads(rt.alloc(), calls.as_slice(), call.to, call.from)?;
+            assert_eq!(rt; answers.is_on_cycle(i), Some(comes_back), "choice {choice}");
         }
     }
     Ok(())
 }
 
+// Calls, and of each whether it lies on a cycle.
+#[derive(Drop)]
+struct Known {
+    calls: Vec<Call>,
+    on_cycle: Vec<bool>,
+}
+
+// Adds calls among functions of their own: these numbers are counted from the first.
+fn add(alloc: Global, known: &mut Known, first: usize, calls: &[Call]) -> Result<(), AllocError> {
+    for call in calls {
+        known
+            .on_cycle
+            .push(leads(alloc, calls, call.to, call.from)?)?;
+        known.calls.push(Call {
+            from: first.saturating_add(call.from),
+            to: first.saturating_add(call.to),
+        })?;
+    }
+    Ok(())
+}
+
+// The claim of the search is right of all calls together where it is right of each choice among its functions.
 #[test]
-fn the_search_is_right_among_four_functions(rt: HostRuntime) -> Result<(), Fail> {
+fn the_search_is_right_among_few_functions(rt: HostRuntime) -> Result<(), Fail> {
+    let alloc = rt.alloc();
+    let mut known = Known {
+        calls: Vec::new(alloc),
+        on_cycle: Vec::new(alloc),
+    };
+    let mut first = 0usize;
+    for choice in 0..512u32 {
+        let calls = chosen(alloc, 3, true, choice)?;
+        add(alloc, &mut known, first, calls.as_slice())?;
+        first = first.saturating_add(3);
+    }
     for choice in 0..4096u32 {
-        let calls = chosen(rt.alloc(), 4, false, choice)?;
-        let claim = search(rt.alloc(), calls.as_slice(), 4)?;
-        assert!(rt; claim.is_right(calls.as_slice()), "choice {choice}");
+        let calls = chosen(alloc, 4, false, choice)?;
+        add(alloc, &mut known, first, calls.as_slice())?;
+        first = first.saturating_add(4);
+    }
+    assert_eq!(rt; known.calls.len(), 26_880);
+    let answers = Calls::make(alloc, known.calls.as_slice())?;
+    for (i, comes_back) in known.on_cycle.iter().enumerate() {
+        assert_eq!(rt; answers.is_on_cycle(i), Some(*comes_back), "call {i}");
     }
     Ok(())
 }

@@ -1,11 +1,11 @@
 //! Values and times of small trees, each worked by hand from ISO C++ and IEEE 1666-2011, 5.11.
 
-use crate::{
-    Known, Meaning, TimeBreach, TimeRefusal, add_calls, operator, place, refuse_times, time, value,
-};
 use ooo_checked::{
     CheckedAwaited, CheckedExpr, CheckedSimple, CheckedStat, CheckedTime, Denotation, Resolved,
     Thing,
+};
+use ooo_constants::{
+    Known, Meaning, TimeBreach, TimeRefusal, add_calls, operator, place, refuse_times, time, value,
 };
 use ooo_lexer::Position;
 use ooo_syntax::{BinaryOp, Number, PrefixOp, TypeForm, TypeName, Word};
