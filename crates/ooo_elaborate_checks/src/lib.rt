@@ -1,4 +1,4 @@
-//! Tests of elaboration over whole texts: what no clause says.
+//! Tests of elaboration: what no clause says. All but `numbers` go over whole texts.
 #![tactic(auto)]
 
 #[cfg(test)]
@@ -7,6 +7,8 @@ mod limits;
 mod models;
 #[cfg(test)]
 mod nested;
+#[cfg(test)]
+mod numbers;
 #[cfg(test)]
 mod outcomes;
 #[cfg(test)]

@@ -13,6 +13,3 @@ mod statements;
 pub use names::events;
 pub use numbers::Numbers;
 pub use statements::stats;
-
-#[cfg(test)]
-mod tests;

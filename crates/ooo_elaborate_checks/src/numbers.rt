@@ -1,6 +1,5 @@
 //! One small body with ample memory.
 
-use crate::{Numbers, stats};
 use ooo_bound::{BoundExpr, BoundRight, BoundSimple, BoundStat, BoundTarget, BoundTime};
 use ooo_checked::{
     CheckedAwaited, CheckedDeclarator, CheckedExpr, CheckedLocal, CheckedSimple, CheckedStat,
@@ -8,6 +7,7 @@ use ooo_checked::{
 };
 use ooo_constants::Meaning;
 use ooo_lexer::Position;
+use ooo_numbers::{Numbers, stats};
 use ooo_syntax::{AssignOp, Number, TypeForm, TypeName, Word};
 use ooo_time::{Scale, Time};
 use ooo_value::{Kind, Name, Op, Value};
