@@ -9,7 +9,7 @@ use std::alloc::{AllocError, Global};
 /// # Errors
 ///
 /// Only where memory runs out.
-pub fn lines(alloc: Global, design: &Design) -> Result<Vec<u8>, AllocError> {
+pub(crate) fn lines(alloc: Global, design: &Design) -> Result<Vec<u8>, AllocError> {
     let mut paper = Paper::new(alloc);
     for e in design.processes.as_slice() {
         process(&mut paper, e)?;
