@@ -52,40 +52,42 @@ fn edge(from: u32, to: u32, delay: Delay) -> Edge {
     Edge { from, to, delay }
 }
 
+// A wait for a time, or for one event, too.
+fn waiting(
+    alloc: Global,
+    time: NodeTime,
+    event: Option<u32>,
+    next: u32,
+) -> Result<Node, AllocError> {
+    let mut events = Items::new(alloc);
+    if let Some(e) = event {
+        events.push(e)?;
+    }
+    let wait = NodeWait {
+        time: Some(time),
+        events,
+        is_static: false,
+    };
+    Ok(node(NodeKind::Wait(wait), next))
+}
+
+// Waits for a constant time, for none, for a computed one, and for a constant time or an event; and the end.
+fn waits(alloc: Global) -> Result<Items<Node>, AllocError> {
+    let amount = NodeExpr::Constant(Value::Int(5));
+    let mut nodes = Items::new(alloc);
+    nodes.push(waiting(alloc, NodeTime::Fixed(Time(5)), None, 1)?)?;
+    nodes.push(waiting(alloc, NodeTime::Fixed(Time(0)), None, 2)?)?;
+    nodes.push(waiting(alloc, NodeTime::Amount(amount, Scale::Ns), None, 3)?)?;
+    nodes.push(waiting(alloc, NodeTime::Fixed(Time(5)), Some(3), 4)?)?;
+    nodes.push(node(NodeKind::End, 0))?;
+    Ok(nodes)
+}
+
 // Worked by hand: a constant time above zero alone is the wait's delay, and every other wait takes one delta cycle.
 #[test]
 fn waits_take_a_time_or_one_delta(rt: HostRuntime) -> Result<(), Fail> {
     let alloc = rt.alloc();
-    let five = NodeWait {
-        time: Some(NodeTime::Fixed(Time(5))),
-        events: Items::new(alloc),
-        is_static: false,
-    };
-    let zero = NodeWait {
-        time: Some(NodeTime::Fixed(Time(0))),
-        events: Items::new(alloc),
-        is_static: false,
-    };
-    let amount = NodeExpr::Constant(Value::Int(5));
-    let computed = NodeWait {
-        time: Some(NodeTime::Amount(amount, Scale::Ns)),
-        events: Items::new(alloc),
-        is_static: false,
-    };
-    let mut events = Items::new(alloc);
-    events.push(3)?;
-    let either = NodeWait {
-        time: Some(NodeTime::Fixed(Time(5))),
-        events,
-        is_static: false,
-    };
-    let mut nodes = Items::new(alloc);
-    nodes.push(node(NodeKind::Wait(five), 1))?;
-    nodes.push(node(NodeKind::Wait(zero), 2))?;
-    nodes.push(node(NodeKind::Wait(computed), 3))?;
-    nodes.push(node(NodeKind::Wait(either), 4))?;
-    nodes.push(node(NodeKind::End, 0))?;
-    let design = thread_of(alloc, nodes)?;
+    let design = thread_of(alloc, waits(alloc)?)?;
     assert!(rt; are_closed(&design));
     let graph = graph_of_closed(alloc, &design)?;
     let time = Time(5);
@@ -96,6 +98,10 @@ fn waits_take_a_time_or_one_delta(rt: HostRuntime) -> Result<(), Fail> {
         edge(3, 4, Delay::DELTA),
     ];
     assert_eq!(rt; graph.edges.as_slice(), edges.as_slice());
-    assert_eq!(rt; GraphError::TooManySegments.name(), "TooManySegments");
     Ok(())
+}
+
+#[test]
+fn a_refusal_has_a_name(rt: HostRuntime) {
+    assert_eq!(rt; GraphError::TooManySegments.name(), "TooManySegments");
 }
