@@ -24,7 +24,7 @@ use Rattle.ooo_members.specs.Bodies.{function_of}
 use Rattle.ooo_members.specs.Declarations.{instance_thing, is_module}
 use Rattle.ooo_members.specs.Members.{child_of, children_of, params_of_module}
 use Rattle.ooo_walk.specs.Plans.{as_function, member_placed, names_in, places_from}
-use Rattle.ooo_walked.specs.Names.{things_of}
+use Rattle.ooo_sound_walk.specs.Names.{things_of}
 use Rattle.ooo_right.specs.Modules.{IsFileScope, IsOfFile, scope_of}
 use Rattle.ooo_right.specs.Right.{AreRight, IsRight}
 use Rattle.ooo_declared.specs.Names.{ChildrenStandBefore, FunctionsAreOfText, NamesStand, StandsIn}

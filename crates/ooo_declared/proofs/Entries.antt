@@ -30,7 +30,7 @@ use Rattle.ooo_members.specs.Declarations.{channel_thing, field_thing, instance_
 use Rattle.ooo_members.specs.Known.{Modules}
 use Rattle.ooo_members.specs.Members.{child_of, field_form_of, field_of, member_of, names_of, params_of_module, part_of}
 use Rattle.ooo_walk.specs.Instances.{port_form}
-use Rattle.ooo_walked.specs.Names.{things_in, channel_thing as channel_walked, field_thing as field_walked}
+use Rattle.ooo_sound_walk.specs.Names.{things_in, channel_thing as channel_walked, field_thing as field_walked}
 
 -- ---- entries
 

@@ -32,7 +32,7 @@ use Rattle.ooo_types.specs.Modules.{at_first, initialised_by}
 use Rattle.ooo_types.specs.Processes.{all_edges, functions_notes}
 use Rattle.ooo_right.specs.Modules.{IsRead, names_of, scope_of}
 use Rattle.ooo_right.specs.Right.{AreRight, IsRight}
-use Rattle.ooo_walked.specs.Names.{things_in, things_of}
+use Rattle.ooo_sound_walk.specs.Names.{things_in, things_of}
 use Rattle.ooo_declared.proofs.Entries.{Entry, entries_in, entries_of, things_by, things_same}
 use Rattle.ooo_declared.proofs.Blocks.{IsAs, IsOn, name_step, names_step, none_yet}
 

@@ -21,7 +21,7 @@ use Rattle.ooo_checked.specs.Exprs.{kind_written}
 use Rattle.ooo_checked.specs.Scopes.{Scope}
 use Rattle.ooo_walk.specs.Instances.{port_form}
 use Rattle.ooo_walk.specs.Plans.{as_function, member_placed, names_in, places_from}
-use Rattle.ooo_walked.specs.Names.{channel_thing, field_thing, things_in, things_of}
+use Rattle.ooo_sound_walk.specs.Names.{channel_thing, field_thing, things_in, things_of}
 use Rattle.ooo_declared.specs.Names.{FunctionsAreThere}
 use Rattle.ooo_declared.proofs.Entries.{Entry, entries_in, entries_of}
 use Rattle.ooo_declared.proofs.Lists.{before_at, first_or, mapped_at, only_at, replicated_at}

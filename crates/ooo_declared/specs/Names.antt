@@ -13,7 +13,7 @@ use Rattle.ooo_checked.specs.declared.module.CheckedMember.TheVariants as member
 use Rattle.ooo_checked.specs.Scopes.{Scope, meaning_of, size_of}
 use Rattle.ooo_members.specs.Bodies.{function_of}
 use Rattle.ooo_walk.specs.Plans.{function_at}
-use Rattle.ooo_walked.specs.Names.{things_of}
+use Rattle.ooo_sound_walk.specs.Names.{things_of}
 use Rattle.ooo_right.specs.Modules.{IsFileScope, IsRead, names_of, scope_of, view_of}
 
 -- a name stands among things where it says, if a module's member declares it; what a function gives is left out

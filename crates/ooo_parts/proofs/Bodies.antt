@@ -34,11 +34,11 @@ use Rattle.ooo_elaborate.specs.Bindings.{links_of}
 use Rattle.ooo_elaborate.specs.Elaborated.{model_of}
 use Rattle.ooo_elaborate.specs.Functions.{functions_in, numbered, setups_calls}
 use Rattle.ooo_elaborate.specs.Processes.{members_in, sensitive_by, walked_function_of}
-use Rattle.ooo_reached.specs.Reached.{ReachedAreClosed, ReachedAreLeast}
+use Rattle.ooo_sound_walk.specs.Reached.{ReachedAreClosed, ReachedAreLeast}
 use Rattle.ooo_fitting.specs.Bodies.{BodiesFit, EventsFit, FitsWith}
 use Rattle.ooo_fitting.specs.Naming.{Agrees, Leave, MayAllBeNoted, MeansFunction}
 use Rattle.ooo_fitting.specs.Written.{CallsAreWritten, MayAllBeWritten, MayBeWritten}
-use Rattle.ooo_walked.specs.Names.{IsFilled, IsOf, NamesAreMeant, things_of}
+use Rattle.ooo_sound_walk.specs.Names.{IsFilled, IsOf, NamesAreMeant, things_of}
 use Rattle.ooo_soundness.specs.Numbering.{FunctionsAreNumbered}
 use Rattle.ooo_soundness.specs.Parts.{FitsParts, IsPassed}
 use Rattle.ooo_soundness.specs.Ports.{PortsFit}

@@ -34,7 +34,7 @@ use Rattle.ooo_elaborate.specs.Functions.{functions_in, numbered, setup_calls, s
 use Rattle.ooo_elaborate.specs.Processes.{body_in, members_in, numbering_in, functions_of, process_of, processes_of, registered_of, walked_function_of}
 use Rattle.ooo_activation.specs.Kinds.{simples_in, calls_of}
 use Rattle.ooo_ranks.specs.Ranks.{AcyclicFalls, FallsIn}
-use Rattle.ooo_reached.specs.Reached.{ReachedAreClosed, ReachedAreLeast}
+use Rattle.ooo_sound_walk.specs.Reached.{ReachedAreClosed, ReachedAreLeast}
 use Rattle.ooo_holding.specs.Ends.{IsMeant, CallsMeant, IsClosed, AreClosed}
 use Rattle.ooo_soundness.specs.Numbering.{FunctionsAreNumbered}
 use Rattle.ooo_soundness.specs.Parts.{ArePassed}

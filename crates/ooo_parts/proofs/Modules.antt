@@ -13,7 +13,7 @@ use Rattle.ooo_checked.specs.declared.unit.CheckedUnitItem.TheVariants as item
 use Rattle.ooo_walk.specs.declared.plan.Plan.{Plan}
 use Rattle.ooo_walk.specs.Plans.{as_function, function_at, member_placed, members_in, names_in, places_from, plan_of, plans_from, view_at, view_planned}
 use Rattle.ooo_walk.specs.Texts.{file_of}
-use Rattle.ooo_walked.specs.Names.{things_in, things_of}
+use Rattle.ooo_sound_walk.specs.Names.{things_in, things_of}
 
 -- ---- places of names
 

@@ -22,7 +22,7 @@ use Rattle.ooo_elaborate.specs.Bindings.{channels_of, links_of}
 use Rattle.ooo_elaborate.specs.Elaborated.{bound_channels}
 use Rattle.ooo_elaborate.specs.Processes.{kinds_of}
 use Rattle.ooo_fitting.specs.Naming.{Leave, Agrees, MeansFunction, MeansThing}
-use Rattle.ooo_walked.specs.Names.{IsChannel, IsOf, IsOwnEvent, IsPort, IsVariable}
+use Rattle.ooo_sound_walk.specs.Names.{IsChannel, IsOf, IsOwnEvent, IsPort, IsVariable}
 use Rattle.ooo_soundness.specs.Ports.{IsBoundTo, PortsFit}
 use Rattle.ooo_parts.specs.Texts.{AllStand, IsDeclared, Stands}
 use Rattle.ooo_parts.specs.Whole.{PortsEnd}

@@ -26,11 +26,11 @@ use Rattle.ooo_elaborate.specs.Processes.{body_in, functions_of, process_of, pro
 use Rattle.ooo_activation.specs.Kinds.{may_wait}
 use Rattle.ooo_activation.specs.Sound.{FitsBody, FitsExpr, FitsFunction, FitsProcess, FitsSimple, NeverWaits}
 use Rattle.ooo_ranks.specs.Ranks.{MeasuredAreRanked}
-use Rattle.ooo_reached.specs.Reached.{ReachedAreClosed, ReachedAreLeast}
+use Rattle.ooo_sound_walk.specs.Reached.{ReachedAreClosed, ReachedAreLeast}
 use Rattle.ooo_fitting.specs.Bodies.{BodiesFit, EventsFit}
 use Rattle.ooo_fitting.specs.Written.{CallsAreWritten}
 use Rattle.ooo_holding.specs.Ends.{EndsOfOne}
-use Rattle.ooo_walked.specs.Names.{NamesAreMeant}
+use Rattle.ooo_sound_walk.specs.Names.{NamesAreMeant}
 use Rattle.ooo_soundness.specs.Ports.{PortsFit}
 use Rattle.ooo_soundness.specs.Clocks.{ClocksFit}
 use Rattle.ooo_soundness.specs.Numbering.{FunctionsAreNumbered}

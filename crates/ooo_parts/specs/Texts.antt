@@ -23,7 +23,7 @@ use Rattle.ooo_walk.specs.Texts.{file_of}
 use Rattle.ooo_elaborate.specs.Functions.{functions_in}
 use Rattle.ooo_fitting.specs.Naming.{Leave, MayAllBeNoted}
 use Rattle.ooo_fitting.specs.Written.{MayAllBeWritten}
-use Rattle.ooo_walked.specs.Names.{StandBefore, things_of}
+use Rattle.ooo_sound_walk.specs.Names.{StandBefore, things_of}
 use Rattle.ooo_parts.specs.Bodies.{HasOrder, IsRegistration, is_thread}
 
 -- ---- names

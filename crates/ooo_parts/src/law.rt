@@ -11,8 +11,8 @@ pub fn calls()
 {
     ooo_soundness::law::passes();
     ooo_soundness::law::numbering();
-    ooo_reached::law::closed();
-    ooo_reached::law::least();
+    ooo_sound_walk::law::closed();
+    ooo_sound_walk::law::least();
 }
 
 /// A measure falls along each call between the functions of a model.
@@ -21,8 +21,8 @@ pub fn falls()
 {
     ooo_soundness::law::passes();
     ooo_soundness::law::numbering();
-    ooo_reached::law::closed();
-    ooo_reached::law::least();
+    ooo_sound_walk::law::closed();
+    ooo_sound_walk::law::least();
     ooo_ranks::law::acyclic();
 }
 
@@ -39,9 +39,9 @@ pub fn bodies()
     ooo_soundness::law::parts();
     ooo_soundness::law::ports();
     ooo_soundness::law::numbering();
-    ooo_reached::law::closed();
-    ooo_reached::law::least();
-    ooo_walked::law::names();
+    ooo_sound_walk::law::closed();
+    ooo_sound_walk::law::least();
+    ooo_sound_walk::law::names();
     ooo_fitting::law::bodies();
     ooo_fitting::law::calls();
 }
@@ -82,9 +82,9 @@ pub fn sound_by_parts()
     ooo_soundness::law::ports();
     ooo_soundness::law::numbering();
     ooo_soundness::law::clocks();
-    ooo_reached::law::closed();
-    ooo_reached::law::least();
-    ooo_walked::law::names();
+    ooo_sound_walk::law::closed();
+    ooo_sound_walk::law::least();
+    ooo_sound_walk::law::names();
     ooo_fitting::law::bodies();
     ooo_fitting::law::events();
     ooo_fitting::law::calls();

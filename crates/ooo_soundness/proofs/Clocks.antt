@@ -30,7 +30,7 @@ use Rattle.ooo_elaborate.specs.Functions.{numbered}
 use Rattle.ooo_elaborate.specs.Processes.{clock_body, clock_wait, clock_write, process_of, processes_of}
 use Rattle.ooo_activation.specs.Kinds.{expression_kind, kind_step, joined, simples_step, simples_of, values_step, values_of, jumps_step, jumps_out, simples_in, values_in, some_jumps_out}
 use Rattle.ooo_activation.specs.Sound.{FitsExpr, FitsSimple, FitsBody, FitsProcess}
-use Rattle.ooo_walked.specs.Clocks.{IsClock, ClocksAreRight}
+use Rattle.ooo_sound_walk.specs.Clocks.{IsClock, ClocksAreRight}
 use Rattle.ooo_soundness.specs.Clocks.{ClocksFit}
 use Rattle.ooo_soundness.specs.Parts.{ArePassed}
 

@@ -23,7 +23,7 @@ use Rattle.ooo_elaborate.specs.declared.processes.Model.{Model}
 use Rattle.ooo_walk.specs.Plans.{Filed}
 use Rattle.ooo_walk.specs.declared.state.WalkedInstance.{WalkedInstance}
 use Rattle.ooo_walk.specs.declared.state.WalkedProcess.{WalkedProcess}
-use Rattle.ooo_walked.specs.Parts.{FitsWalk, WalksAreRight, bounds_of, last_event as last_of}
+use Rattle.ooo_sound_walk.specs.Parts.{FitsWalk, WalksAreRight, bounds_of, last_event as last_of}
 use Rattle.ooo_fitting.specs.Naming.{last_event}
 use Rattle.ooo_holding.specs.Ends.{AreClosed, EndsOfOne, EndsAreOfOne}
 use Rattle.ooo_soundness.specs.Parts.{FitsParts, AreRightParts, ArePassed, HaveOneHolder}

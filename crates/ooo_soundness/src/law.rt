@@ -17,7 +17,7 @@ pub fn parts()
     ensures { AreRightParts }
 {
     passes();
-    ooo_walked::law::parts();
+    ooo_sound_walk::law::parts();
 }
 
 /// Each signal has one writer, and each end of a fifo one holder.
@@ -45,5 +45,5 @@ pub fn clocks()
     ensures { ClocksFit }
 {
     passes();
-    ooo_walked::law::clocks();
+    ooo_sound_walk::law::clocks();
 }

@@ -28,9 +28,9 @@ use Rattle.ooo_types.specs.Processes.{all_edges, functions_notes}
 use Rattle.ooo_walk.specs.Plans.{Viewed, function_at}
 use Rattle.ooo_walk.specs.Reach.{has}
 use Rattle.ooo_elaborate.specs.Functions.{functions_in}
-use Rattle.ooo_walked.specs.Names.{things_of}
+use Rattle.ooo_sound_walk.specs.Names.{things_of}
 use Rattle.ooo_noted.specs.Calls.{CallsAreNoted}
-use Rattle.ooo_reached.specs.Reached.{ReachedAreLeast}
+use Rattle.ooo_sound_walk.specs.Reached.{ReachedAreLeast}
 use Rattle.ooo_parts.specs.Bodies.{HasOrder, IsRegistration, is_thread}
 use Rattle.ooo_parts.specs.Texts.{AllStand, AreEvents, FitsText, IsText, no_calls}
 use Rattle.ooo_right.specs.Modules.{IsFileScope, IsRead, names_of, scope_of, view_of}

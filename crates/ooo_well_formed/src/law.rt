@@ -14,7 +14,7 @@ pub fn fits()
     ooo_filed::law::modules();
     ooo_filed::law::instances();
     ooo_noted::law::calls();
-    ooo_reached::law::least();
+    ooo_sound_walk::law::least();
     ooo_registered::law::edges();
     ooo_registered::law::no_cycle();
     ooo_registered::law::called();

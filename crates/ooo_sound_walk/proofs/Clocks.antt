@@ -10,8 +10,8 @@ use Rattle.ooo_walk.specs.declared.state.ProcessForm.TheVariants.{Clock}
 use Rattle.ooo_walk.specs.declared.state.Walk.{Walk}
 use Rattle.ooo_walk.specs.declared.state.WalkedChannel.{WalkedChannel}
 use Rattle.ooo_walk.specs.declared.state.WalkedProcess.{WalkedProcess}
-use Rattle.ooo_walked.specs.Clocks.{IsClock, ClocksAreRight}
-use Rattle.ooo_walked.proofs.Walked.{IsKept, IsKeptBehind, walked}
+use Rattle.ooo_sound_walk.specs.Clocks.{IsClock, ClocksAreRight}
+use Rattle.ooo_sound_walk.proofs.Walked.{IsKept, IsKeptBehind, walked}
 
 abbrev AreClocks : List WalkedProcess → List WalkedChannel → Type 0
 AreClocks ps cs = (p : ℕ) (x : WalkedProcess) (c : ℕ) (half : Time) (line : ℕ) → slice_get ps p ≡ Some x → x.form ≡ Clock c half line →

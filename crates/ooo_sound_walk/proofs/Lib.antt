@@ -3,3 +3,4 @@ pub mod Walked
 pub mod Parts
 pub mod Names
 pub mod Clocks
+pub mod Closed

@@ -10,7 +10,7 @@ use Rattle.ooo_lemmas.proofs.Counting.{count_at_most, count_strictly}
 use Rattle.ooo_checked.specs.declared.module.CheckedFunction.{CheckedFunction}
 use Rattle.ooo_walk.specs.Plans.{Viewed, as_function, function_at, member_placed}
 use Rattle.ooo_walk.specs.Reach.{calls_at, calls_in, has, reached_by, reached_from, with_calls, with_function}
-use Rattle.ooo_reached.specs.Reached.{ReachedAreClosed, ReachedAreLeast}
+use Rattle.ooo_sound_walk.specs.Reached.{ReachedAreClosed, ReachedAreLeast}
 
 -- ---- lists that grow at their end
 

@@ -70,7 +70,7 @@ use Rattle.ooo_walk.specs.Setups.{with_start, set_meant, bound_to, bind_meant, a
 use Rattle.ooo_walk.specs.Instances.{Inside, after_args, entered, instance_with, child_of, port_form, member_of, inside_of, args_evaluated, values_from, counting}
 use Rattle.ooo_walk.specs.Plans.{Filed, Viewed, view_at, init_args}
 use Rattle.ooo_walk.specs.Texts.{at_first, item_of, clock_with, clock_timed, after_room, clock_of, main_item_of, stop_timed, start_of, file_of, walk_of}
-use Rattle.ooo_walked.proofs.Values.{of_kind}
+use Rattle.ooo_sound_walk.proofs.Values.{of_kind}
 
 -- each step of a walk keeps it that declares no name
 pub record IsQuiet (P : Walk → Type 0) : Type 0 where

@@ -49,8 +49,8 @@ use Rattle.ooo_lemmas.proofs.Placed.{kept_at, at_end}
 use Rattle.ooo_checked.specs.declared.module.CheckedArg.{CheckedArg}
 use Rattle.ooo_checked.specs.declared.unit.CheckedMainItem.{CheckedMainItem}
 use Rattle.ooo_checked.specs.declared.unit.CheckedMainItem.TheVariants as main_item
-use Rattle.ooo_walked.specs.Names.{IsVariable, IsPort, IsOf, field_thing, channel_thing, things_in, things_of, IsFilled, NamesAreMeant}
-use Rattle.ooo_walked.proofs.Walked.{IsKept, IsKeptBehind, IsQuiet, start_keeps, object_keeps, cells_keep, in_order_keeps, field_keeps, part_keeps, port_keeps, event_keeps, constant_keeps, meant_keeps, args_keep, statics_keep, setups_keep, fixed_keeps, word_keeps, clock_item_keeps, bind_keeps, item_keeps, start_form_keeps}
+use Rattle.ooo_sound_walk.specs.Names.{IsVariable, IsPort, IsOf, field_thing, channel_thing, things_in, things_of, IsFilled, NamesAreMeant}
+use Rattle.ooo_sound_walk.proofs.Walked.{IsKept, IsKeptBehind, IsQuiet, start_keeps, object_keeps, cells_keep, in_order_keeps, field_keeps, part_keeps, port_keeps, event_keeps, constant_keeps, meant_keeps, args_keep, statics_keep, setups_keep, fixed_keeps, word_keeps, clock_item_keeps, bind_keeps, item_keeps, start_form_keeps}
 
 -- ---- walks that grow
 

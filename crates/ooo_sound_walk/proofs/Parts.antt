@@ -17,8 +17,8 @@ use Rattle.ooo_checked.specs.Things.{is_bool}
 use Rattle.ooo_walk.specs.declared.state.Walk.{Walk}
 use Rattle.ooo_walk.specs.declared.state.WalkedChannel.{WalkedChannel}
 use Rattle.ooo_walk.specs.States.{channel_events}
-use Rattle.ooo_walked.specs.Parts.{FitsWalk, WalksAreRight, bounds_of, last_event}
-use Rattle.ooo_walked.proofs.Walked.{IsKept, IsKeptBehind, IsQuiet, walked}
+use Rattle.ooo_sound_walk.specs.Parts.{FitsWalk, WalksAreRight, bounds_of, last_event}
+use Rattle.ooo_sound_walk.proofs.Walked.{IsKept, IsKeptBehind, IsQuiet, walked}
 
 -- ---- lists that grow
 

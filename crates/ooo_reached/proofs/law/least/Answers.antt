@@ -1,5 +1,0 @@
-use Rattle.ooo_reached.proofs.Closed.{reached_are_least}
-use Rattle.ooo_reached.proofs.law.least.Goals as goal
-
-pub returns : goal.returns
-returns c = reached_are_least

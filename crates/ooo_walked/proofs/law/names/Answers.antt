@@ -1,5 +1,0 @@
-use Rattle.ooo_walked.proofs.Names.{names_are_meant}
-use Rattle.ooo_walked.proofs.law.names.Goals as goal
-
-pub returns : goal.returns
-returns c = names_are_meant
