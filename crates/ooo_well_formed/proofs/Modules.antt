@@ -33,12 +33,12 @@ use Rattle.ooo_noted.specs.Calls.{CallsAreNoted}
 use Rattle.ooo_sound_walk.specs.Reached.{ReachedAreLeast}
 use Rattle.ooo_parts.specs.Bodies.{HasOrder, IsRegistration, is_thread}
 use Rattle.ooo_parts.specs.Texts.{AllStand, AreEvents, FitsText, IsText, no_calls}
-use Rattle.ooo_right.specs.Modules.{IsFileScope, IsRead, names_of, scope_of, view_of}
-use Rattle.ooo_right.specs.Right.{IsRight, AreRight}
-use Rattle.ooo_called.specs.Calls.{CallsAreOfScope}
-use Rattle.ooo_declared.specs.Names.{FunctionsAreOfText, FunctionsAreThere, IsFunctionOf, NamesStand}
-use Rattle.ooo_registered.specs.Parts.{BodiesAreInside, EventsAreOfText, body_scope}
-use Rattle.ooo_registered.specs.Waiting.{CalledDontWait, CallsAreEdges, MethodsDontWait, NoCallOnCycle, called_by, edges_of, known_of}
+use Rattle.ooo_sound_text.specs.Modules.{IsFileScope, IsRead, names_of, scope_of, view_of}
+use Rattle.ooo_sound_text.specs.Right.{IsRight, AreRight}
+use Rattle.ooo_sound_text.specs.Calls.{CallsAreOfScope}
+use Rattle.ooo_sound_text.specs.Names.{FunctionsAreOfText, FunctionsAreThere, IsFunctionOf, NamesStand}
+use Rattle.ooo_sound_text.specs.Parts.{BodiesAreInside, EventsAreOfText, body_scope}
+use Rattle.ooo_sound_text.specs.Waiting.{CalledDontWait, CallsAreEdges, MethodsDontWait, NoCallOnCycle, called_by, edges_of, known_of}
 use Rattle.ooo_well_formed.proofs.Callers.{reached_called}
 use Rattle.ooo_well_formed.proofs.Names.{AllStandIn, all_stand, functions_among, number_is, numbers_below, part_among}
 use Rattle.ooo_well_formed.proofs.Rights.{events_noted, leave_of, noted, then_called, then_waits, written}

@@ -12,9 +12,9 @@ use Rattle.ooo_checked.specs.Scopes.{Scope, meaning_of}
 use Rattle.ooo_walk.specs.Plans.{Viewed, as_function, function_at, member_placed}
 use Rattle.ooo_sound_walk.specs.Names.{things_of}
 use Rattle.ooo_parts.specs.Texts.{AllStand, Stands}
-use Rattle.ooo_right.specs.Modules.{IsInside, IsOwn}
-use Rattle.ooo_called.specs.Calls.{FunctionsAreAmong, IsAmong}
-use Rattle.ooo_declared.specs.Names.{StandsIn}
+use Rattle.ooo_sound_text.specs.Modules.{IsInside, IsOwn}
+use Rattle.ooo_sound_text.specs.Calls.{FunctionsAreAmong, IsAmong}
+use Rattle.ooo_sound_text.specs.Names.{StandsIn}
 
 stands : (v : Viewed) (d : Denotation) (t : Thing) → StandsIn (things_of v.members) d t → Stands v d t
 stands v d (thing.Variable k) h = h

@@ -22,7 +22,7 @@ use Rattle.ooo_types.specs.Told.{breaches_in}
 use Rattle.ooo_fitting.specs.Naming.{Leave, MayAllBeNoted}
 use Rattle.ooo_fitting.specs.Written.{MayAllBeWritten}
 use Rattle.ooo_parts.specs.Texts.{no_calls}
-use Rattle.ooo_right.specs.Right.{IsRight, AreRight}
+use Rattle.ooo_sound_text.specs.Right.{IsRight, AreRight}
 
 -- a text without breaches is right
 pub right : (ns : List Note) → breaches_in ns ≡ [] → AreRight ns

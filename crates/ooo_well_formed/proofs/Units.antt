@@ -9,9 +9,9 @@ use Rattle.ooo_walk.specs.Plans.{Viewed, empty_view, view_at}
 use Rattle.ooo_walk.specs.Texts.{file_of}
 use Rattle.ooo_parts.specs.Texts.{FitsText}
 use Rattle.ooo_parts.specs.Whole.{SoundByParts}
-use Rattle.ooo_right.specs.Right.{AreRight}
-use Rattle.ooo_declared.specs.Names.{ChildrenStandBefore}
-use Rattle.ooo_filed.specs.Files.{InstancesAreFiled, IsReadAt, ModulesAreRead}
+use Rattle.ooo_sound_text.specs.Right.{AreRight}
+use Rattle.ooo_sound_text.specs.Names.{ChildrenStandBefore}
+use Rattle.ooo_sound_text.specs.Files.{InstancesAreFiled, IsReadAt, ModulesAreRead}
 use Rattle.ooo_well_formed.specs.Sound.{ModelsAreSound, TextsFit}
 use Rattle.ooo_well_formed.proofs.Modules.{Laws, module_fits}
 use Rattle.ooo_well_formed.proofs.Rights.{right}

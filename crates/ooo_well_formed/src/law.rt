@@ -6,21 +6,21 @@ ghost use Rattle.ooo_well_formed.specs.Sound.{ModelsAreSound, TextsFit};
 pub fn fits()
     ensures { TextsFit }
 {
-    ooo_called::law::calls();
-    ooo_declared::law::names();
-    ooo_declared::law::members();
-    ooo_declared::law::functions();
-    ooo_declared::law::children();
-    ooo_filed::law::modules();
-    ooo_filed::law::instances();
+    ooo_sound_text::law::calls();
+    ooo_sound_text::law::names();
+    ooo_sound_text::law::members();
+    ooo_sound_text::law::functions();
+    ooo_sound_text::law::children();
+    ooo_sound_text::law::modules();
+    ooo_sound_text::law::instances();
     ooo_noted::law::calls();
     ooo_sound_walk::law::least();
-    ooo_registered::law::edges();
-    ooo_registered::law::no_cycle();
-    ooo_registered::law::called();
-    ooo_registered::law::methods();
-    ooo_registered::law::bodies();
-    ooo_registered::law::events();
+    ooo_sound_text::law::edges();
+    ooo_sound_text::law::no_cycle();
+    ooo_sound_text::law::called();
+    ooo_sound_text::law::methods();
+    ooo_sound_text::law::bodies();
+    ooo_sound_text::law::events();
 }
 
 /// The bound model of a text without breaches is sound, where elaboration gives one.

@@ -1,5 +1,0 @@
-use Rattle.ooo_declared.proofs.Declared.{children_stand_before}
-use Rattle.ooo_declared.proofs.law.children.Goals as goal
-
-pub returns : goal.returns
-returns c = children_stand_before

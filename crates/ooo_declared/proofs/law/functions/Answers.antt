@@ -1,5 +1,0 @@
-use Rattle.ooo_declared.proofs.Declared.{functions_are_of_text}
-use Rattle.ooo_declared.proofs.law.functions.Goals as goal
-
-pub returns : goal.returns
-returns c = functions_are_of_text

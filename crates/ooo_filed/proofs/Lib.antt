@@ -1,4 +1,0 @@
-pub mod Files
-pub mod Mains
-pub mod Notes
-pub mod Scopes

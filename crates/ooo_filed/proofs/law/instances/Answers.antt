@@ -1,5 +1,0 @@
-use Rattle.ooo_filed.proofs.Mains.{instances_are_filed}
-use Rattle.ooo_filed.proofs.law.instances.Goals as goal
-
-pub returns : goal.returns
-returns c = instances_are_filed

@@ -1,5 +1,0 @@
-use Rattle.ooo_filed.proofs.Files.{modules_are_read}
-use Rattle.ooo_filed.proofs.law.modules.Goals as goal
-
-pub returns : goal.returns
-returns c = modules_are_read
