@@ -2,7 +2,7 @@
 use Rattle.std.specs.Prelude.{◌≡◌, ℕ, ◌≤◌, List, IfSome, Ok}
 use Rattle.ooo_time.specs.Scales.{greatest_time}
 use Rattle.ooo_activation.specs.Sound.{IsSound}
-use Rattle.ooo_parts.specs.Reports.{HasNames}
+use Rattle.ooo_sound_model.specs.Reports.{HasNames}
 use Rattle.ooo_shapes.specs.Designs.{design_of}
 use Rattle.ooo_front.specs.declared.answer.Accepted.{Accepted}
 use Rattle.ooo_front.specs.Layers.{HasFew, IsFrontOf}

@@ -14,8 +14,8 @@ pub fn accepted_are_ready()
     ensures { AcceptedAreReady }
 {
     ooo_well_formed::law::sound();
-    ooo_parts::law::stops();
-    ooo_parts::law::named();
+    ooo_sound_model::law::stops();
+    ooo_sound_model::law::named();
 }
 
 /// Words have one reply from the bytes that they read: one status, and one text to write.

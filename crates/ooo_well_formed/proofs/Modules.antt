@@ -29,10 +29,10 @@ use Rattle.ooo_walk.specs.Plans.{Viewed, function_at}
 use Rattle.ooo_walk.specs.Reach.{has}
 use Rattle.ooo_elaborate.specs.Functions.{functions_in}
 use Rattle.ooo_sound_walk.specs.Names.{things_of}
-use Rattle.ooo_noted.specs.Calls.{CallsAreNoted}
+use Rattle.ooo_sound_model.specs.Noted.{CallsAreNoted}
 use Rattle.ooo_sound_walk.specs.Reached.{ReachedAreLeast}
-use Rattle.ooo_parts.specs.Bodies.{HasOrder, IsRegistration, is_thread}
-use Rattle.ooo_parts.specs.Texts.{AllStand, AreEvents, FitsText, IsText, no_calls}
+use Rattle.ooo_sound_model.specs.Bodies.{HasOrder, IsRegistration, is_thread}
+use Rattle.ooo_sound_model.specs.Texts.{AllStand, AreEvents, FitsText, IsText, no_calls}
 use Rattle.ooo_sound_text.specs.Modules.{IsFileScope, IsRead, names_of, scope_of, view_of}
 use Rattle.ooo_sound_text.specs.Right.{IsRight, AreRight}
 use Rattle.ooo_sound_text.specs.Calls.{CallsAreOfScope}

@@ -11,7 +11,7 @@ use Rattle.ooo_checked.specs.declared.module.CheckedFunction.{CheckedFunction}
 use Rattle.ooo_checked.specs.Scopes.{Scope, meaning_of}
 use Rattle.ooo_walk.specs.Plans.{Viewed, as_function, function_at, member_placed}
 use Rattle.ooo_sound_walk.specs.Names.{things_of}
-use Rattle.ooo_parts.specs.Texts.{AllStand, Stands}
+use Rattle.ooo_sound_model.specs.Texts.{AllStand, Stands}
 use Rattle.ooo_sound_text.specs.Modules.{IsInside, IsOwn}
 use Rattle.ooo_sound_text.specs.Calls.{FunctionsAreAmong, IsAmong}
 use Rattle.ooo_sound_text.specs.Names.{StandsIn}

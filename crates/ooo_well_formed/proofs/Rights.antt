@@ -19,9 +19,9 @@ use Rattle.ooo_checked.specs.Things.{is_event, is_known}
 use Rattle.ooo_bodies.specs.declared.notes.Call.{Call}
 use Rattle.ooo_members.specs.Known.{calls_in, waits_in}
 use Rattle.ooo_types.specs.Told.{breaches_in}
-use Rattle.ooo_fitting.specs.Naming.{Leave, MayAllBeNoted}
-use Rattle.ooo_fitting.specs.Written.{MayAllBeWritten}
-use Rattle.ooo_parts.specs.Texts.{no_calls}
+use Rattle.ooo_sound_model.specs.Naming.{Leave, MayAllBeNoted}
+use Rattle.ooo_sound_model.specs.Written.{MayAllBeWritten}
+use Rattle.ooo_sound_model.specs.Texts.{no_calls}
 use Rattle.ooo_sound_text.specs.Right.{IsRight, AreRight}
 
 -- a text without breaches is right

@@ -7,8 +7,8 @@ use Rattle.ooo_checked.specs.declared.module.CheckedMember.TheVariants as member
 use Rattle.ooo_types.specs.Units.{unit_of}
 use Rattle.ooo_walk.specs.Plans.{Viewed, empty_view, view_at}
 use Rattle.ooo_walk.specs.Texts.{file_of}
-use Rattle.ooo_parts.specs.Texts.{FitsText}
-use Rattle.ooo_parts.specs.Whole.{SoundByParts}
+use Rattle.ooo_sound_model.specs.Texts.{FitsText}
+use Rattle.ooo_sound_model.specs.Whole.{SoundByParts}
 use Rattle.ooo_sound_text.specs.Right.{AreRight}
 use Rattle.ooo_sound_text.specs.Names.{ChildrenStandBefore}
 use Rattle.ooo_sound_text.specs.Files.{InstancesAreFiled, IsReadAt, ModulesAreRead}

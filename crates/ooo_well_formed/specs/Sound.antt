@@ -6,7 +6,7 @@ use Rattle.ooo_types.specs.Told.{breaches_of}
 use Rattle.ooo_types.specs.Units.{unit_of}
 use Rattle.ooo_elaborate.specs.Elaborated.{bound_of}
 use Rattle.ooo_activation.specs.Sound.{IsSound}
-use Rattle.ooo_parts.specs.Texts.{FitsUnit}
+use Rattle.ooo_sound_model.specs.Texts.{FitsUnit}
 
 -- its bodies, names and calls are right
 abbrev pub TextsFit : Type 0

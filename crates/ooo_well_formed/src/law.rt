@@ -13,7 +13,7 @@ pub fn fits()
     ooo_sound_text::law::children();
     ooo_sound_text::law::modules();
     ooo_sound_text::law::instances();
-    ooo_noted::law::calls();
+    ooo_sound_model::law::noted();
     ooo_sound_walk::law::least();
     ooo_sound_text::law::edges();
     ooo_sound_text::law::no_cycle();
@@ -28,5 +28,5 @@ pub fn sound()
     ensures { ModelsAreSound }
 {
     fits();
-    ooo_parts::law::sound_by_parts();
+    ooo_sound_model::law::sound_by_parts();
 }

@@ -1,0 +1,15 @@
+pub mod Naming
+pub mod Fitting
+pub mod Written
+pub mod Noted
+pub mod Ends
+pub mod Ranks
+pub mod Parts
+pub mod Ports
+pub mod Numbering
+pub mod Clocks
+pub mod Bodies
+pub mod Calls
+pub mod Reports
+pub mod Texts
+pub mod Whole

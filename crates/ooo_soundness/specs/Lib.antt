@@ -1,4 +1,0 @@
-pub mod Parts
-pub mod Ports
-pub mod Numbering
-pub mod Clocks
