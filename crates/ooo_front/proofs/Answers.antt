@@ -22,7 +22,7 @@ use Rattle.ooo_shapes.specs.Sizes.{code_size}
 use Rattle.ooo_lower.specs.declared.designs.LowerError.{LowerError}
 use Rattle.ooo_lower.specs.declared.designs.LowerError.TheVariants as lower
 use Rattle.ooo_lower.specs.declared.designs.TheConstants.{GREATEST_SIZE}
-use Rattle.ooo_well_formed.specs.Sound.{ModelsAreSound}
+use Rattle.ooo_sound.specs.Sound.{ModelsAreSound}
 use Rattle.ooo_front.specs.declared.answer.Accepted.{Accepted}
 use Rattle.ooo_front.specs.declared.answer.Refused.{Refused}
 use Rattle.ooo_front.specs.declared.answer.Refused.TheVariants as refused

@@ -43,7 +43,7 @@ fn lowered(alloc: Global, source: &[u8]) -> Result<Accepted, Refused>
     ensures model { IfOk result (λ accepted. IsSoundModel accepted.bound) }
     ensures design { IfOk result (λ accepted. IsSound accepted.design) }
 {
-    ooo_well_formed::law::sound();
+    ooo_sound::law::sound();
     ooo_shapes::law::sound_design();
     let tokens = lex(alloc, source)?;
     front_of_tokens(alloc, source, &tokens)

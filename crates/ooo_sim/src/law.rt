@@ -13,7 +13,7 @@ use ooo_code::Frame;
 pub fn accepted_are_ready()
     ensures { AcceptedAreReady }
 {
-    ooo_well_formed::law::sound();
+    ooo_sound::law::sound();
     ooo_sound_model::law::stops();
     ooo_sound_model::law::named();
 }

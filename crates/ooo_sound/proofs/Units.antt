@@ -12,9 +12,9 @@ use Rattle.ooo_sound_model.specs.Whole.{SoundByParts}
 use Rattle.ooo_sound_text.specs.Right.{AreRight}
 use Rattle.ooo_sound_text.specs.Names.{ChildrenStandBefore}
 use Rattle.ooo_sound_text.specs.Files.{InstancesAreFiled, IsReadAt, ModulesAreRead}
-use Rattle.ooo_well_formed.specs.Sound.{ModelsAreSound, TextsFit}
-use Rattle.ooo_well_formed.proofs.Modules.{Laws, module_fits}
-use Rattle.ooo_well_formed.proofs.Rights.{right}
+use Rattle.ooo_sound.specs.Sound.{ModelsAreSound, TextsFit}
+use Rattle.ooo_sound.proofs.Modules.{Laws, module_fits}
+use Rattle.ooo_sound.proofs.Rights.{right}
 
 -- what is no module has no bodies
 empty_fits : FitsText empty_view

@@ -1,6 +1,6 @@
-use Rattle.ooo_well_formed.proofs.Modules.{Laws}
-use Rattle.ooo_well_formed.proofs.Units.{texts_fit}
-use Rattle.ooo_well_formed.proofs.law.fits.Goals as goal
+use Rattle.ooo_sound.proofs.Modules.{Laws}
+use Rattle.ooo_sound.proofs.Units.{models_sound, texts_fit}
+use Rattle.ooo_sound.proofs.law.sound.Goals as goal
 
 pub returns : goal.returns
 returns c =
@@ -17,4 +17,4 @@ returns c =
       methods = c.methods.ensures;
       bodies = c.bodies.ensures;
       events = c.events.ensures;
-    } in texts_fit laws c.children.ensures c.modules.ensures c.instances.ensures
+    } in models_sound (texts_fit laws c.children.ensures c.modules.ensures c.instances.ensures) c.sound_by_parts.ensures

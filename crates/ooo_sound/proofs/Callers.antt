@@ -11,7 +11,7 @@ use Rattle.ooo_walk.specs.Plans.{Viewed, function_at}
 use Rattle.ooo_walk.specs.Reach.{calls_in, has}
 use Rattle.ooo_elaborate.specs.Functions.{functions_in, setup_calls, setups_calls}
 use Rattle.ooo_sound_walk.specs.Reached.{HasFunctions, ReachedAreLeast}
-use Rattle.ooo_well_formed.proofs.Names.{function_within}
+use Rattle.ooo_sound.proofs.Names.{function_within}
 
 has_is : (xs : List ℕ) (n : ℕ) → has xs n ≡ true → Contains xs n
 has_is [] n h = absurd cc

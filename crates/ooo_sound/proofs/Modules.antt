@@ -39,9 +39,9 @@ use Rattle.ooo_sound_text.specs.Calls.{CallsAreOfScope}
 use Rattle.ooo_sound_text.specs.Names.{FunctionsAreOfText, FunctionsAreThere, IsFunctionOf, NamesStand}
 use Rattle.ooo_sound_text.specs.Parts.{BodiesAreInside, EventsAreOfText, body_scope}
 use Rattle.ooo_sound_text.specs.Waiting.{CalledDontWait, CallsAreEdges, MethodsDontWait, NoCallOnCycle, called_by, edges_of, known_of}
-use Rattle.ooo_well_formed.proofs.Callers.{reached_called}
-use Rattle.ooo_well_formed.proofs.Names.{AllStandIn, all_stand, functions_among, number_is, numbers_below, part_among}
-use Rattle.ooo_well_formed.proofs.Rights.{events_noted, leave_of, noted, then_called, then_waits, written}
+use Rattle.ooo_sound.proofs.Callers.{reached_called}
+use Rattle.ooo_sound.proofs.Names.{AllStandIn, all_stand, functions_among, number_is, numbers_below, part_among}
+use Rattle.ooo_sound.proofs.Rights.{events_noted, leave_of, noted, then_called, then_waits, written}
 
 -- ---- notes of members
 
