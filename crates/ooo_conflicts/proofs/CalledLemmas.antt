@@ -12,7 +12,7 @@ use Rattle.ooo_access.specs.declared.access.Access.{Access}
 use Rattle.ooo_conflicts.specs.declared.called.Called.{Called}
 use Rattle.ooo_conflicts.specs.declared.kind.ClashKind.{ClashKind}
 use Rattle.ooo_conflicts.specs.declared.kind.ClashKind.TheVariants.{Apart, Earlier, Same}
-use Rattle.ooo_conflicts.specs.Clashes.{Share, Calls, ShareVariable, ShareEvent, CallsWaited, ShareSignal, ShareFifo}
+use Rattle.ooo_conflicts.specs.Clashes.{Share, Calls, ShareVariable, ShareEvent, CallsWaited, WritesRead, ShareFifo}
 use Rattle.ooo_conflicts.specs.Kinds.{AreCalled, AreListed, AllCalled, IsKindOf, IsRow, IsTable}
 
 nothing : (empty : List Bool) (e : ℕ) → empty ≡ [] → IsIn empty e → ⊥
@@ -85,7 +85,7 @@ same_kind events b g x y p q h = λ strict. (
 )
 
 -- a clash where the first comes earlier
-pub earlier_kind : (events : List BoundEvent) (b g : Access) (x y : Called) → AreCalled events b x → AreCalled events g y → (ShareVariable b g ⊎ Share x.own y.own → ⊥) → Share x.all g.waited ⊎ (ShareSignal b g ⊎ ShareFifo b g) → IsKindOf events b g Earlier
+pub earlier_kind : (events : List BoundEvent) (b g : Access) (x y : Called) → AreCalled events b x → AreCalled events g y → (ShareVariable b g ⊎ Share x.own y.own → ⊥) → Share x.all g.waited ⊎ (WritesRead b g ⊎ ShareFifo b g) → IsKindOf events b g Earlier
 earlier_kind events b g x y p q out h = λ strict. (
   λ e. inr (e, elim h [ inl s ↦ inl ((waited_shared events b g x p).0 s) | inr s ↦ inr s ]),
   λ w. elim w [
@@ -95,7 +95,7 @@ earlier_kind events b g x y p q out h = λ strict. (
 )
 
 -- no clash
-pub apart_kind : (events : List BoundEvent) (b g : Access) (x y : Called) → AreCalled events b x → AreCalled events g y → (ShareVariable b g ⊎ Share x.own y.own → ⊥) → (Share x.all g.waited ⊎ (ShareSignal b g ⊎ ShareFifo b g) → ⊥) → IsKindOf events b g Apart
+pub apart_kind : (events : List BoundEvent) (b g : Access) (x y : Called) → AreCalled events b x → AreCalled events g y → (ShareVariable b g ⊎ Share x.own y.own → ⊥) → (Share x.all g.waited ⊎ (WritesRead b g ⊎ ShareFifo b g) → ⊥) → IsKindOf events b g Apart
 apart_kind events b g x y p q out none = λ strict. (
   λ e. absurd cc,
   λ w. absurd (elim w [

@@ -25,9 +25,9 @@ ShareEvent events b g = (e : ℕ) × IsOwn (slice_get events e) × Calls b e × 
 abbrev pub CallsWaited : Access → Access → Type 0
 CallsWaited b g = (e : ℕ) × Calls b e × Contains g.waited e
 
--- one writes a signal that the other reads
-abbrev pub ShareSignal : Access → Access → Type 0
-ShareSignal b g = Share b.signals_written g.signals_read ⊎ Share b.signals_read g.signals_written
+-- b writes a signal that g reads
+abbrev pub WritesRead : Access → Access → Type 0
+WritesRead b g = Share b.signals_written g.signals_read
 
 -- they hold the two different ends of one fifo
 abbrev pub ShareFifo : Access → Access → Type 0
@@ -39,7 +39,7 @@ ClashSame events b g = ShareVariable b g ⊎ ShareEvent events b g
 
 -- they clash where b comes at an earlier stamp
 abbrev pub ClashEarlier : Access → Access → Type 0
-ClashEarlier b g = CallsWaited b g ⊎ (ShareSignal b g ⊎ ShareFifo b g)
+ClashEarlier b g = CallsWaited b g ⊎ (WritesRead b g ⊎ ShareFifo b g)
 
 -- segment b clashes with segment g, strictly where b comes at an earlier stamp
 abbrev pub Clash : List BoundEvent → Access → Access → (strict : Bool) → Type 0

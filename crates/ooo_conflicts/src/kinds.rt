@@ -1,7 +1,7 @@
 ghost use Rattle.std.specs.Prelude.{◌⊎◌, ◌↔◌, List, IsTrue};
 ghost use Rattle.ooo_value.specs.declared.bound.BoundEvent.{BoundEvent as EventSpec};
 ghost use Rattle.ooo_access.specs.Access.{IsInOrder};
-ghost use Rattle.ooo_conflicts.specs.Clashes.{Share, ShareFifo, ShareSignal, ShareVariable};
+ghost use Rattle.ooo_conflicts.specs.Clashes.{Share, ShareFifo, ShareVariable, WritesRead};
 ghost use Rattle.ooo_conflicts.specs.Kinds.{AreCalled, AreListed, IsKindOf};
 
 use crate::called::Called;
@@ -44,18 +44,18 @@ fn clashes_earlier(b: &Access, b_calls: &Called, g: &Access) -> bool
     requires second { IsInOrder g.now }
     requires calls { AreListed b_calls.now }
     ensures { IsTrue result
-        ↔ (Share b_calls.now.all g.now.waited ⊎ (ShareSignal b.now g.now ⊎ ShareFifo b.now g.now)) }
+        ↔ (Share b_calls.now.all g.now.waited ⊎ (WritesRead b.now g.now ⊎ ShareFifo b.now g.now)) }
 {
     share(&b_calls.all, &g.waited) || share_channel(b, g)
 }
 
-// Whether one writes a signal that the other reads, or they hold the two ends of one fifo.
+// Whether the first writes a signal that the second reads, or they hold the two ends of one fifo.
 fn share_channel(b: &Access, g: &Access) -> bool
     requires first { IsInOrder b.now }
     requires second { IsInOrder g.now }
-    ensures { IsTrue result ↔ (ShareSignal b.now g.now ⊎ ShareFifo b.now g.now) }
+    ensures { IsTrue result ↔ (WritesRead b.now g.now ⊎ ShareFifo b.now g.now) }
 {
-    share_signal(b, g) || share_fifo(b, g)
+    writes_read(b, g) || share_fifo(b, g)
 }
 
 // Whether one writes a variable that the other reads or writes.
@@ -76,13 +76,13 @@ fn share_read(b: &Access, g: &Access) -> bool
     share(&b.written, &g.read) || share(&b.read, &g.written)
 }
 
-// Whether one writes a signal that the other reads.
-fn share_signal(b: &Access, g: &Access) -> bool
+// Whether the first writes a signal that the second reads.
+fn writes_read(b: &Access, g: &Access) -> bool
     requires first { IsInOrder b.now }
     requires second { IsInOrder g.now }
-    ensures { IsTrue result ↔ ShareSignal b.now g.now }
+    ensures { IsTrue result ↔ WritesRead b.now g.now }
 {
-    share(&b.signals_written, &g.signals_read) || share(&b.signals_read, &g.signals_written)
+    share(&b.signals_written, &g.signals_read)
 }
 
 // Whether they hold the two different ends of one fifo.

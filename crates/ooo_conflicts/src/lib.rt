@@ -3,7 +3,7 @@
 //! Proved: of any two segments whose accesses a [`ClashTable`] was made of, [`ClashTable::clash`] says exactly whether they
 //! clash, by the five cases of the definition: one writes a variable that the other reads or writes; both notify or cancel
 //! one event of type sc_event; and, strictly, the first notifies or cancels an event on which the entry of the second
-//! waits, one writes a signal that the other reads, or they hold the two ends of one fifo. It looks up one entry.
+//! waits, it writes a signal that the second reads, or they hold the two ends of one fifo. It looks up one entry.
 #![tactic(auto)]
 
 mod called;

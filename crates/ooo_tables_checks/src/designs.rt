@@ -328,6 +328,50 @@ fn a_fifo_and_a_signal_between_processes(rt: HostRuntime) -> Result<(), Fail> {
     Ok(())
 }
 
+const A_SIGNAL_WRITTEN_WHILE_A_SLOWER_THREAD_READS: &str = "segment 0: process 0 start; nodes 0
+segment 1: process 0 after 0; nodes 1 2
+segment 2: process 1 start; nodes 3 4
+segment 3: process 1 after 4; nodes 5 6
+access 0
+access 1; reads signals 0
+access 2; writes signals 0; notifies 0
+access 3; writes signals 0; notifies 0
+edge 0 to 1: 5+0
+edge 2 to 3: 10+0
+clashes 0: ....
+clashes 1: ....
+clashes 2: .e..
+clashes 3: .e..
+least 0: 0+0 5+0 - -
+least 1: - 0+0 - -
+least 2: - - 0+0 10+0
+least 3: - - - 0+0
+";
+
+// A thread waits for 5 ticks and prints a signal. Another one writes it, waits for 10 ticks and writes it again. Its
+// segments clash with the one that reads where they come earlier, and that one with none.
+#[test]
+fn a_signal_written_while_a_slower_thread_reads(rt: HostRuntime) -> Result<(), Fail> {
+    let nodes = [
+        Step::Wait(5, 1),
+        Step::PrintSignal(0, 2),
+        Step::End,
+        Step::Write(0, 4),
+        Step::Wait(10, 5),
+        Step::Write(0, 6),
+        Step::End,
+    ];
+    let sketch = Sketch {
+        nodes: &nodes,
+        processes: &[thread(0, 3), thread(3, 7)],
+        channels: &[SIGNAL],
+        events: &[BoundEvent::Changed(0)],
+    };
+    let text = told(rt.alloc(), sketch)?;
+    assert_eq!(rt; text.as_str(), A_SIGNAL_WRITTEN_WHILE_A_SLOWER_THREAD_READS);
+    Ok(())
+}
+
 const A_ZERO_WAIT: &str = "segment 0: process 0 start; nodes 0
 segment 1: process 0 after 0; nodes 1
 segment 2: process 0 after 1; nodes 2
