@@ -1,9 +1,12 @@
-ghost use Rattle.std.specs.Prelude.{◌≡◌, ◌<◌, List, length, All, IfOk};
+ghost use Rattle.std.specs.Prelude.{◌≡◌, ◌<◌, ◌≤◌, ◌↔◌, ℕ, List, length, All, Contains, IfOk};
 ghost use Rattle.ooo_value.specs.declared.bound.BoundEvent.{BoundEvent as EventSpec};
-ghost use Rattle.ooo_access.specs.Access.{IsInOrder};
+ghost use Rattle.ooo_access.specs.Access.{AreAscending, IsInOrder};
+ghost use Rattle.ooo_segments.specs.Beginnings.{greatest_segments};
+ghost use Rattle.ooo_conflicts.specs.Clashing.{ClashesStrictly};
 ghost use Rattle.ooo_conflicts.specs.Kinds.{AllCalled, AreCalled, AreListed, IsRow, IsTable, is_clash, kind_at};
 
 use crate::called::{Called, all_called};
+use crate::clashing::all_clashing;
 use crate::kind::ClashKind;
 use crate::kinds::kind_of;
 use ooo_access::Access;
@@ -12,21 +15,24 @@ use sqlite_items::Items;
 use std::alloc::{AllocError, Global};
 use std::marker::Model;
 
-/// Of any two segments of a design, whether they clash.
+/// Of any two segments of a design, whether they clash, and of each segment those that clash strictly with it.
 #[derive(Debug, Drop)]
 pub struct ClashTable {
     rows: Vec<Items<ClashKind>>,
+    // Of each segment those that clash strictly with it.
+    clashing: Vec<Items<u32>>,
 }
 
 impl Model for ClashTable {
-    ghost use Rattle.std.specs.Prelude.{◌≡◌, List, length, All};
+    ghost use Rattle.std.specs.Prelude.{List};
     ghost use Rattle.ooo_conflicts.specs.declared.kind.ClashKind.{ClashKind as KindSpec};
+    ghost use Rattle.ooo_conflicts.specs.Clashing.{IsWhole};
 
     ghost Value = { List (List KindSpec) };
 
     ghost view = { λ t. t.rows.items };
 
-    ghost invariant = { λ t. All (λ row. length row ≡ length t.rows.items) t.rows.items };
+    ghost invariant = { λ t. IsWhole t.rows.items t.clashing.items };
 }
 
 impl ClashTable {
@@ -36,7 +42,8 @@ impl ClashTable {
     ///
     /// Only where memory runs out.
     pub fn make(alloc: Global, design: &Design, access: &[Access]) -> Result<ClashTable, AllocError>
-        requires { All IsInOrder access.now }
+        requires few { length access.now ≤ greatest_segments }
+        requires in_order { All IsInOrder access.now }
         ensures count { IfOk result (λ t. length t ≡ length access.now) }
         ensures exact { IfOk result (IsTable design.now.events access.now) }
         ensures rows { IfOk result (All (λ row. length row ≡ length access.now)) }
@@ -47,7 +54,8 @@ impl ClashTable {
         for (b, one) in access.iter().enumerate() {
             rows.push(row_of(alloc, one, &called[b], access, called)?)?;
         }
-        Ok(ClashTable { rows })
+        let clashing = all_clashing(alloc, rows.as_slice())?;
+        Ok(ClashTable { rows, clashing })
     }
 
     /// Whether segment `b` clashes with segment `g`: strictly, where `b` comes at an earlier stamp.
@@ -58,6 +66,16 @@ impl ClashTable {
     {
         let row = &self.rows[b as usize];
         row.as_slice()[g as usize].holds(strict)
+    }
+
+    /// The segments that clash with segment `g` strictly, where they come at an earlier stamp: each `b` for which
+    /// `clash(b, g, true)` holds, ascending. The list was made with the table, so a call costs one look-up.
+    pub fn clashing(&self, g: u32) -> &[u32]
+        requires { g < length self.now }
+        ensures exact { (b : ℕ) → Contains result.now b ↔ ClashesStrictly self.now b g }
+        ensures ascending { AreAscending result.now }
+    {
+        self.clashing[g as usize].as_slice()
     }
 }
 

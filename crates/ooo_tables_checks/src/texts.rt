@@ -133,27 +133,29 @@ fn tell_edge(alloc: Global, text: &mut String, edge: &Edge) -> Result<(), AllocE
 }
 
 // A row for each segment: `s` where it clashes with the segment of the column at one stamp, `e` where only at an earlier
-// one, and `.` where never.
+// one, and `.` where never; `?` where the table contradicts itself.
 fn tell_clashes(alloc: Global, text: &mut String, tables: &Tables) -> Result<(), AllocError> {
     for b in 0..tables.access.len() as u32 {
         text.push_str(format!(in alloc; "clashes {b}: ")?.as_str())?;
         for g in 0..tables.access.len() as u32 {
             let strictly = tables.clashes.clash(b, g, true);
             let same = tables.clashes.clash(b, g, false);
-            text.push_str(letter(strictly, same))?;
+            let listed = tables.clashes.clashing(g).contains(&b);
+            text.push_str(letter(strictly, same, listed))?;
         }
         text.push_str("\n")?;
     }
     Ok(())
 }
 
-// When two segments clash, by whether they do strictly and at one stamp. Never are they to clash at one stamp alone.
-fn letter(strictly: bool, same: bool) -> &'static str {
-    match (strictly, same) {
-        (false, false) => ".",
-        (true, false) => "e",
-        (true, true) => "s",
-        (false, true) => "?",
+// When two segments clash, by whether they do strictly and at one stamp, and whether the first is listed for the second.
+// Never are they to clash at one stamp alone, and it is to be listed exactly where they clash strictly.
+fn letter(strictly: bool, same: bool, listed: bool) -> &'static str {
+    match (strictly, same, listed) {
+        (false, false, false) => ".",
+        (true, false, true) => "e",
+        (true, true, true) => "s",
+        _ => "?",
     }
 }
 

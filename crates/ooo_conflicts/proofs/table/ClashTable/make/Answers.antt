@@ -10,7 +10,7 @@ pub loop-b-init : goal.loop-b-init
 loop-b-init c = rw c.new-rows.ensures.items (rows_none _ _)
 
 pub row_of-requires-clause-first : goal.row_of-requires-clause-first
-row_of-requires-clause-first c = read_all IsInOrder c.args.access.now c.loop-b.b _ c.loop-b-test.true c.index-access-b.is c.requires
+row_of-requires-clause-first c = read_all IsInOrder c.args.access.now c.loop-b.b _ c.loop-b-test.true c.index-access-b.is c.requires.in_order
 
 pub row_of-requires-clause-first_calls : goal.row_of-requires-clause-first_calls
 row_of-requires-clause-first_calls c =
@@ -43,4 +43,4 @@ returns-clause-rows c = rows_wide _ _ _ _ c.loop-b.invariant
 pub invariant_of-result : goal.invariant_of-result
 invariant_of-result c =
     let end : c.loop-b.b ≡ length c.args.access.now = let a = c.loop-b-test.false in let b = c.loop-b.auto.b-end in omega arith in
-    rows_long _ _ _ _ end c.loop-b.invariant
+    record { wide = rows_long _ _ _ _ end c.loop-b.invariant; listed = rw c.as_slice-2.ensures.value at c.in_ok-clashing.ensures }
