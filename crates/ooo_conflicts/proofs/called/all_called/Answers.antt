@@ -1,5 +1,5 @@
 -- Access by access.
-use Rattle.std.proofs.Common.{◌≡◌, length, arith, ◌∙◌, sym, ap, Some}
+use Rattle.std.proofs.Common.{arith, ◌∙◌, sym, ap, Some}
 use Rattle.std.proofs.lemmas.Option.{slice_get-get_or}
 use Rattle.ooo_conflicts.proofs.CalledLemmas.{so_far_none, so_far_more}
 use Rattle.ooo_conflicts.proofs.called.all_called.Goals as goal

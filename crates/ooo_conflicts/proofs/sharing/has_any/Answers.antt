@@ -1,8 +1,7 @@
 -- Number by number.
-use Rattle.std.proofs.Common.{sym, subst, ◌∙◌}
+use Rattle.std.proofs.Common.{sym, ◌∙◌}
 use Rattle.std.proofs.lemmas.List.{take_more, take_all}
 use Rattle.std.proofs.lemmas.Bool.{false≢true}
-use Rattle.ooo_conflicts.specs.Clashes.{Share}
 use Rattle.ooo_conflicts.proofs.SetLemmas.{share_more}
 use Rattle.ooo_conflicts.proofs.sharing.has_any.Goals as goal
 
