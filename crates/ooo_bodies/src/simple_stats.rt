@@ -10,7 +10,7 @@ ghost use Rattle.ooo_bodies.specs.Noting.{noted};
 
 use crate::copies::{copy_text, copy_word, discard, resolve};
 use crate::events::{awaited, time};
-use crate::exprs::{expr, exprs, right_side};
+use crate::exprs::{boxed, expr, exprs, right_side};
 use crate::notes::Notes;
 use ooo_checked::{
     CallPlace, CheckedExpr, CheckedItem, CheckedSimple, CheckedTarget, Method, Thing, TypeBreach,
@@ -18,7 +18,7 @@ use ooo_checked::{
 use ooo_lexer::Position;
 use ooo_scopes::Scopes;
 use ooo_syntax::{AssignOp, Expr, PrintItem, Simple, Target, TimeForm, Word};
-use sqlite_items::Items;
+use sqlite_items::{Boxed, Items};
 use std::alloc::{AllocError, Global};
 
 /// An expression, if there is one, with what its names denote; what is noted of it is kept.
@@ -40,6 +40,26 @@ pub fn option_expr(
         None => Ok(None),
         Some(e) => {
             let tree = expr(alloc, e, scopes, notes)?;
+            Ok(Some(tree))
+        }
+    }
+}
+
+// An expression, if there is one, on the heap.
+pub(crate) fn boxed_option(
+    alloc: Global,
+    e: &Option<Expr>,
+    scopes: &Scopes,
+    notes: &mut Notes,
+) -> Result<Option<Boxed<CheckedExpr>>, AllocError>
+    ensures tree { IfOk result (λ tree. tree ≡ tree_of (option_of e.now scopes.now)) }
+    ensures notes { OnOk result (notes.new
+        ≡ noted notes.old (option_notes (option_of e.now scopes.now))) }
+{
+    match e {
+        None => Ok(None),
+        Some(e) => {
+            let tree = boxed(alloc, e, scopes, notes)?;
             Ok(Some(tree))
         }
     }
@@ -345,4 +365,19 @@ pub fn simple_stat(
             Ok(CheckedSimple::Print(*at, is))
         }
     }
+}
+
+// A simple statement on the heap.
+pub(crate) fn boxed_simple(
+    alloc: Global,
+    statement: &Simple,
+    scopes: &Scopes,
+    notes: &mut Notes,
+) -> Result<Boxed<CheckedSimple>, AllocError>
+    ensures tree { IfOk result (λ tree. tree ≡ (simple_of statement.now scopes.now).tree) }
+    ensures notes { OnOk result (notes.new
+        ≡ noted notes.old (simple_of statement.now scopes.now).notes) }
+{
+    let tree = simple_stat(alloc, statement, scopes, notes)?;
+    Boxed::new(alloc, tree)
 }

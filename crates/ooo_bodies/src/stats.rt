@@ -8,9 +8,9 @@ ghost use Rattle.ooo_checked.specs.Stats.{stat_of, stats_of, step_of, while_of};
 ghost use Rattle.ooo_bodies.specs.Noting.{noted};
 
 use crate::copies::{copy_word, discard, kind_written};
-use crate::exprs::{boxed, expr, right_side};
+use crate::exprs::{boxed, right_side};
 use crate::notes::Notes;
-use crate::simple_stats::{option_expr, simple_stat};
+use crate::simple_stats::{boxed_option, boxed_simple, simple_stat};
 use ooo_checked::{
     CheckedDeclarator, CheckedExpr, CheckedLocal, CheckedSimple, CheckedStart, CheckedStat,
     Context, Denotation, Resolved, Thing, TypeBreach,
@@ -133,6 +133,24 @@ fn local(
     })
 }
 
+// A declaration of locals, on the heap.
+fn boxed_local(
+    alloc: Global,
+    context: Context,
+    names: &Local,
+    scopes: &mut Scopes,
+    notes: &mut Notes,
+) -> Result<Boxed<CheckedLocal>, AllocError>
+    ensures tree { IfOk result (λ tree. tree ≡ (local_of context names.now scopes.old).tree) }
+    ensures scope { OnOk result (scopes.new ≡ (local_of context names.now scopes.old).scope) }
+    ensures notes { OnOk result (notes.new
+        ≡ noted notes.old (local_of context names.now scopes.old).notes) }
+    ensures outer { OnOk result (left scopes.new ≡ left scopes.old) }
+{
+    let tree = local(alloc, context, names, scopes, notes)?;
+    Boxed::new(alloc, tree)
+}
+
 // How a `for` begins.
 fn start(
     alloc: Global,
@@ -159,6 +177,24 @@ fn start(
     }
 }
 
+// How a `for` begins, on the heap.
+fn boxed_start(
+    alloc: Global,
+    context: Context,
+    begins: &ForStart,
+    scopes: &mut Scopes,
+    notes: &mut Notes,
+) -> Result<Boxed<CheckedStart>, AllocError>
+    ensures tree { IfOk result (λ tree. tree ≡ (start_of context begins.now scopes.old).tree) }
+    ensures scope { OnOk result (scopes.new ≡ (start_of context begins.now scopes.old).scope) }
+    ensures notes { OnOk result (notes.new
+        ≡ noted notes.old (start_of context begins.now scopes.old).notes) }
+    ensures outer { OnOk result (left scopes.new ≡ left scopes.old) }
+{
+    let tree = start(alloc, context, begins, scopes, notes)?;
+    Boxed::new(alloc, tree)
+}
+
 // How a `for` begins, if it says so.
 fn option_start(
     alloc: Global,
@@ -166,7 +202,7 @@ fn option_start(
     begins: &Option<ForStart>,
     scopes: &mut Scopes,
     notes: &mut Notes,
-) -> Result<Option<CheckedStart>, AllocError>
+) -> Result<Option<Boxed<CheckedStart>>, AllocError>
     ensures tree { IfOk result (λ tree.
         tree ≡ (option_start_of context begins.now scopes.old).tree) }
     ensures scope { OnOk result (scopes.new
@@ -178,7 +214,7 @@ fn option_start(
     match begins {
         None => Ok(None),
         Some(begins) => {
-            let begins = start(alloc, context, begins, scopes, notes)?;
+            let begins = boxed_start(alloc, context, begins, scopes, notes)?;
             Ok(Some(begins))
         }
     }
@@ -190,7 +226,7 @@ fn step(
     statement: &Option<Simple>,
     scopes: &Scopes,
     notes: &mut Notes,
-) -> Result<Option<CheckedSimple>, AllocError>
+) -> Result<Option<Boxed<CheckedSimple>>, AllocError>
     ensures tree { IfOk result (λ tree. tree ≡ (step_of statement.now scopes.now).tree) }
     ensures notes { OnOk result (notes.new
         ≡ noted notes.old (step_of statement.now scopes.now).notes) }
@@ -198,7 +234,7 @@ fn step(
     match statement {
         None => Ok(None),
         Some(statement) => {
-            let statement = simple_stat(alloc, statement, scopes, notes)?;
+            let statement = boxed_simple(alloc, statement, scopes, notes)?;
             Ok(Some(statement))
         }
     }
@@ -262,18 +298,18 @@ pub fn stat(
         }
         Stat::Empty(at) => Ok(CheckedStat::Empty(*at)),
         Stat::Local(names) => {
-            let names = local(alloc, context, names, scopes, notes)?;
+            let names = boxed_local(alloc, context, names, scopes, notes)?;
             Ok(CheckedStat::Local(names))
         }
         Stat::Simple(statement) => {
-            let statement = simple_stat(alloc, statement, scopes, notes)?;
+            let statement = boxed_simple(alloc, statement, scopes, notes)?;
             Ok(CheckedStat::Simple(statement))
         }
         Stat::If(at, test, yes, no) => {
             let test = boxed(alloc, test, scopes, notes)?;
             let yes = inner(alloc, context, yes.get(), scopes, notes)?;
             let no = otherwise(alloc, context, no, scopes, notes)?;
-            Ok(CheckedStat::If(*at, test.into_inner(), yes, no))
+            Ok(CheckedStat::If(*at, test, yes, no))
         }
         Stat::While(at, test, body) => {
             while_stat(alloc, context, *at, body.get(), test, scopes, notes)
@@ -302,7 +338,7 @@ pub fn stat(
         }
         Stat::Return(at, value) => {
             notes.returns(context.result, value, *at);
-            let value = option_expr(alloc, value, scopes, notes)?;
+            let value = boxed_option(alloc, value, scopes, notes)?;
             Ok(CheckedStat::Return(*at, value))
         }
     }
@@ -433,7 +469,7 @@ fn while_stat(
 {
     let test = boxed(alloc, test, scopes, notes)?;
     let body = inner(alloc, looped(context), body, scopes, notes)?;
-    Ok(CheckedStat::While(at, test.into_inner(), body))
+    Ok(CheckedStat::While(at, test, body))
 }
 
 // `do`
@@ -457,16 +493,16 @@ fn do_stat(
     ensures outer { OnOk result (left scopes.new ≡ left scopes.old) }
 {
     let body = inner(alloc, looped(context), body, scopes, notes)?;
-    let test = expr(alloc, test, scopes, notes)?;
+    let test = boxed(alloc, test, scopes, notes)?;
     Ok(CheckedStat::Do(at, body, test))
 }
 
 // What stands in the parentheses of a `for`.
 #[derive(Drop)]
 struct ForHead {
-    begins: Option<CheckedStart>,
-    test: Option<CheckedExpr>,
-    after: Option<CheckedSimple>,
+    begins: Option<Boxed<CheckedStart>>,
+    test: Option<Boxed<CheckedExpr>>,
+    after: Option<Boxed<CheckedSimple>>,
 }
 
 // What stands in the parentheses of a `for`, read in the scope that its block begins with.
@@ -479,7 +515,7 @@ fn for_head(
     after: &Option<Simple>,
     scopes: &mut Scopes,
     notes: &mut Notes,
-) -> Result<Boxed<ForHead>, AllocError>
+) -> Result<ForHead, AllocError>
     ensures begins { IfOk result (λ head.
         head.begins ≡ (option_start_of context begins.now scopes.old).tree) }
     ensures test { IfOk result (λ head. head.test ≡ tree_of
@@ -492,50 +528,14 @@ fn for_head(
         ≡ noted notes.old (head_notes context begins.now test.now after.now scopes.old)) }
     ensures outer { OnOk result (left scopes.new ≡ left scopes.old) }
 {
-    let begins = boxed_start(alloc, context, begins, scopes, notes)?;
+    let begins = option_start(alloc, context, begins, scopes, notes)?;
     let test = boxed_option(alloc, test, scopes, notes)?;
     let after = step(alloc, after, scopes, notes)?;
-    let head = ForHead {
-        begins: begins.into_inner(),
-        test: test.into_inner(),
+    Ok(ForHead {
+        begins,
+        test,
         after,
-    };
-    Boxed::new(alloc, head)
-}
-
-// How a `for` begins, on the heap.
-fn boxed_start(
-    alloc: Global,
-    context: Context,
-    begins: &Option<ForStart>,
-    scopes: &mut Scopes,
-    notes: &mut Notes,
-) -> Result<Boxed<Option<CheckedStart>>, AllocError>
-    ensures tree { IfOk result (λ tree.
-        tree ≡ (option_start_of context begins.now scopes.old).tree) }
-    ensures scope { OnOk result (scopes.new
-        ≡ (option_start_of context begins.now scopes.old).scope) }
-    ensures notes { OnOk result (notes.new
-        ≡ noted notes.old (option_start_of context begins.now scopes.old).notes) }
-    ensures outer { OnOk result (left scopes.new ≡ left scopes.old) }
-{
-    let begins = option_start(alloc, context, begins, scopes, notes)?;
-    Boxed::new(alloc, begins)
-}
-
-// An expression, if there is one, on the heap.
-fn boxed_option(
-    alloc: Global,
-    e: &Option<Expr>,
-    scopes: &Scopes,
-    notes: &mut Notes,
-) -> Result<Boxed<Option<CheckedExpr>>, AllocError>
-    ensures tree { IfOk result (λ tree. tree ≡ tree_of (option_of e.now scopes.now)) }
-    ensures notes { OnOk result (notes.new
-        ≡ noted notes.old (option_notes (option_of e.now scopes.now))) }
-{
-    let tree = option_expr(alloc, e, scopes, notes)?;
-    Boxed::new(alloc, tree)
+    })
 }
 
 // `for`
@@ -568,6 +568,6 @@ fn for_stat(
         begins,
         test,
         after,
-    } = head.into_inner();
+    } = head;
     Ok(CheckedStat::For(at, begins, test, after, body))
 }

@@ -36,7 +36,7 @@ fn refuse_stat(known: Known<'_>, statement: &CheckedStat, told: &mut Option<Time
 {
     match statement {
         CheckedStat::Block(_, body) => refuse_times(known, body.as_slice(), told),
-        CheckedStat::Simple(statement) => refuse_simple(known, statement, told),
+        CheckedStat::Simple(statement) => refuse_simple(known, statement.get(), told),
         CheckedStat::If(_, _, yes, no) => {
             refuse_stat(known, yes.get(), told);
             refuse_else(known, no, told);
@@ -69,20 +69,30 @@ fn refuse_else(known: Known<'_>, no: &Option<Boxed<CheckedStat>>, told: &mut Opt
 }
 
 // The same of what a `for` begins with.
-fn refuse_start(known: Known<'_>, begins: &Option<CheckedStart>, told: &mut Option<TimeRefusal>)
+fn refuse_start(
+    known: Known<'_>,
+    begins: &Option<Boxed<CheckedStart>>,
+    told: &mut Option<TimeRefusal>,
+)
     ensures { told.new ≡ told_of told.old (start_refusals (constants_of known.entry) begins.now) }
 {
-    if let Some(CheckedStart::Simple(statement)) = begins {
-        refuse_simple(known, statement, told);
+    if let Some(begins) = begins {
+        if let CheckedStart::Simple(statement) = begins.get() {
+            refuse_simple(known, statement, told);
+        }
     }
 }
 
 // The same of what a `for` does after each turn.
-fn refuse_step(known: Known<'_>, after: &Option<CheckedSimple>, told: &mut Option<TimeRefusal>)
+fn refuse_step(
+    known: Known<'_>,
+    after: &Option<Boxed<CheckedSimple>>,
+    told: &mut Option<TimeRefusal>,
+)
     ensures { told.new ≡ told_of told.old (step_refusals (constants_of known.entry) after.now) }
 {
     if let Some(statement) = after {
-        refuse_simple(known, statement, told);
+        refuse_simple(known, statement.get(), told);
     }
 }
 

@@ -30,8 +30,8 @@ fn add_stat(statement: &CheckedStat, calls: &mut Vec<usize>) -> Result<(), Alloc
 {
     match statement {
         CheckedStat::Block(_, body) => add_calls(body.as_slice(), calls),
-        CheckedStat::Local(local) => add_declarators(local.names.as_slice(), calls),
-        CheckedStat::Simple(statement) => add_simple(statement, calls),
+        CheckedStat::Local(local) => add_declarators(local.get().names.as_slice(), calls),
+        CheckedStat::Simple(statement) => add_simple(statement.get(), calls),
         CheckedStat::If(_, _, yes, no) => {
             add_stat(yes.get(), calls)?;
             add_else(no, calls)
@@ -62,23 +62,25 @@ fn add_else(no: &Option<Boxed<CheckedStat>>, calls: &mut Vec<usize>) -> Result<(
 }
 
 // Adds those of what a `for` begins with.
-fn add_start(begins: &Option<CheckedStart>, calls: &mut Vec<usize>) -> Result<(), AllocError>
+fn add_start(begins: &Option<Boxed<CheckedStart>>, calls: &mut Vec<usize>) -> Result<(), AllocError>
     ensures { OnOk result (calls.new.items ≡ calls.old.items ++ start_calls begins.now) }
 {
     match begins {
         None => Ok(()),
-        Some(CheckedStart::Local(local)) => add_declarators(local.names.as_slice(), calls),
-        Some(CheckedStart::Simple(statement)) => add_simple(statement, calls),
+        Some(begins) => match begins.get() {
+            CheckedStart::Local(local) => add_declarators(local.names.as_slice(), calls),
+            CheckedStart::Simple(statement) => add_simple(statement, calls),
+        },
     }
 }
 
 // Adds those of what a `for` does after each turn.
-fn add_step(after: &Option<CheckedSimple>, calls: &mut Vec<usize>) -> Result<(), AllocError>
+fn add_step(after: &Option<Boxed<CheckedSimple>>, calls: &mut Vec<usize>) -> Result<(), AllocError>
     ensures { OnOk result (calls.new.items ≡ calls.old.items ++ step_calls after.now) }
 {
     match after {
         None => Ok(()),
-        Some(statement) => add_simple(statement, calls),
+        Some(statement) => add_simple(statement.get(), calls),
     }
 }
 

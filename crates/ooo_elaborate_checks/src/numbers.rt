@@ -57,7 +57,8 @@ fn declaration(alloc: Global) -> Result<CheckedStat, AllocError> {
         form: TypeForm::Int,
         position: at(2),
     };
-    Ok(CheckedStat::Local(CheckedLocal { form, names }))
+    let local = Boxed::new(alloc, CheckedLocal { form, names })?;
+    Ok(CheckedStat::Local(local))
 }
 
 // x -= 1; of a variable
@@ -67,7 +68,8 @@ fn update(alloc: Global) -> Result<CheckedStat, AllocError> {
         index: None,
     };
     let value = number(3, Value::Int(1));
-    Ok(CheckedStat::Simple(CheckedSimple::Assign(to, AssignOp::Subtract, value)))
+    let assigned = CheckedSimple::Assign(to, AssignOp::Subtract, value);
+    Ok(CheckedStat::Simple(Boxed::new(alloc, assigned)?))
 }
 
 // while (p.negedge()) wait(10, SC_NS);
@@ -77,8 +79,9 @@ fn loop_on_edge(alloc: Global) -> Result<CheckedStat, AllocError> {
     let test = CheckedExpr::Member(Kind::Bool, name, word(alloc, 4)?, Method::Negedge, None);
     let delay = CheckedTime::Amount(number(5, Value::Int(10)), Scale::Ns);
     let wait = CheckedSimple::Wait(at(5), CheckedAwaited::Delay(delay));
+    let wait = Boxed::new(alloc, wait)?;
     let body = Boxed::new(alloc, CheckedStat::Simple(wait))?;
-    Ok(CheckedStat::While(at(4), test, body))
+    Ok(CheckedStat::While(at(4), Boxed::new(alloc, test)?, body))
 }
 
 #[test]

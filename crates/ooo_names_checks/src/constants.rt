@@ -311,7 +311,8 @@ fn refused_block(alloc: Global, line: u32) -> Result<CheckedStat, AllocError> {
     let amount = CheckedExpr::Number(Kind::Int, number);
     let delay = CheckedAwaited::Delay(CheckedTime::Amount(amount, Scale::Ns));
     let mut body = Items::new(alloc);
-    body.push(CheckedStat::Simple(CheckedSimple::Wait(at, delay)))?;
+    let wait = Boxed::new(alloc, CheckedSimple::Wait(at, delay))?;
+    body.push(CheckedStat::Simple(wait))?;
     let word = Word {
         name: Name::new(alloc, "f")?,
         position: at,
@@ -321,7 +322,7 @@ fn refused_block(alloc: Global, line: u32) -> Result<CheckedStat, AllocError> {
         number: 4,
     };
     let call = CheckedSimple::Call(Resolved { word, denotes }, Items::new(alloc));
-    body.push(CheckedStat::Simple(call))?;
+    body.push(CheckedStat::Simple(Boxed::new(alloc, call)?))?;
     Ok(CheckedStat::Block(at, body))
 }
 

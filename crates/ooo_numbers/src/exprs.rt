@@ -160,14 +160,14 @@ pub(crate) fn exprs(
 pub(crate) fn option(
     alloc: Global,
     numbers: Numbers<'_>,
-    e: &Option<CheckedExpr>,
+    e: &Option<Boxed<CheckedExpr>>,
 ) -> Result<Option<BoundExpr>, AllocError>
     ensures { IfOk result (λ tree. tree ≡ option_of (numbering_of numbers.entry) e.now) }
 {
     match e {
         None => Ok(None),
         Some(e) => {
-            let tree = expr(alloc, numbers, e)?;
+            let tree = expr(alloc, numbers, e.get())?;
             Ok(Some(tree))
         }
     }

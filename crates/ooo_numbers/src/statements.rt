@@ -73,14 +73,16 @@ fn single(
 fn start(
     alloc: Global,
     numbers: Numbers<'_>,
-    begins: &Option<CheckedStart>,
+    begins: &Option<Boxed<CheckedStart>>,
 ) -> Result<Items<LinedSimple>, AllocError>
     ensures { IfOk result (λ all. all ≡ start_of (numbering_of numbers.entry) begins.now) }
 {
     match begins {
         None => Ok(Items::new(alloc)),
-        Some(CheckedStart::Local(given)) => local(alloc, numbers, given),
-        Some(CheckedStart::Simple(statement)) => single(alloc, numbers, statement),
+        Some(begins) => match begins.get() {
+            CheckedStart::Local(given) => local(alloc, numbers, given),
+            CheckedStart::Simple(statement) => single(alloc, numbers, statement),
+        },
     }
 }
 
@@ -88,14 +90,14 @@ fn start(
 fn after(
     alloc: Global,
     numbers: Numbers<'_>,
-    statement: &Option<CheckedSimple>,
+    statement: &Option<Boxed<CheckedSimple>>,
 ) -> Result<Option<LinedSimple>, AllocError>
     ensures { IfOk result (λ lined. lined ≡ after_of (numbering_of numbers.entry) statement.now) }
 {
     match statement {
         None => Ok(None),
         Some(statement) => {
-            let lined = lined(alloc, numbers, statement)?;
+            let lined = lined(alloc, numbers, statement.get())?;
             Ok(Some(lined))
         }
     }
@@ -122,9 +124,9 @@ impl ForHead {
 fn for_head(
     alloc: Global,
     numbers: Numbers<'_>,
-    begins: &Option<CheckedStart>,
-    test: &Option<CheckedExpr>,
-    step: &Option<CheckedSimple>,
+    begins: &Option<Boxed<CheckedStart>>,
+    test: &Option<Boxed<CheckedExpr>>,
+    step: &Option<Boxed<CheckedSimple>>,
 ) -> Result<Boxed<ForHead>, AllocError>
     ensures begins { IfOk result (λ head.
         head.begins ≡ start_of (numbering_of numbers.entry) begins.now) }
@@ -148,7 +150,7 @@ fn for_head(
 fn boxed_option(
     alloc: Global,
     numbers: Numbers<'_>,
-    e: &Option<CheckedExpr>,
+    e: &Option<Boxed<CheckedExpr>>,
 ) -> Result<Boxed<Option<BoundExpr>>, AllocError>
     ensures { IfOk result (λ tree. tree ≡ option_of (numbering_of numbers.entry) e.now) }
 {
@@ -173,27 +175,27 @@ fn stat(
         }
         CheckedStat::Empty(_) => Ok(BoundStat::Block(Items::new(alloc))),
         CheckedStat::Local(given) => {
-            let body = local_stats(alloc, numbers, given)?;
+            let body = local_stats(alloc, numbers, given.get())?;
             Ok(BoundStat::Block(body))
         }
         CheckedStat::Simple(statement) => {
-            let lined = lined(alloc, numbers, statement)?;
+            let lined = lined(alloc, numbers, statement.get())?;
             Ok(BoundStat::Simple(lined))
         }
         CheckedStat::If(at, test, yes, no) => {
-            let test = boxed(alloc, numbers, test)?;
+            let test = boxed(alloc, numbers, test.get())?;
             let yes = inner(alloc, numbers, yes.get())?;
             let no = otherwise(alloc, numbers, no)?;
             Ok(BoundStat::If(at.line, test.into_inner(), yes, no))
         }
         CheckedStat::While(at, test, body) => {
-            let test = boxed(alloc, numbers, test)?;
+            let test = boxed(alloc, numbers, test.get())?;
             let body = inner(alloc, numbers, body.get())?;
             Ok(BoundStat::While(at.line, test.into_inner(), body))
         }
         CheckedStat::Do(at, body, test) => {
             let body = inner(alloc, numbers, body.get())?;
-            let test = expr(alloc, numbers, test)?;
+            let test = expr(alloc, numbers, test.get())?;
             Ok(BoundStat::Do(at.line, body, test))
         }
         CheckedStat::For(at, begins, test, step, body) => {

@@ -12,8 +12,8 @@ refuse_stat-returns-in-Block t c =
 
 pub refuse_stat-returns-in-If : goal.refuse_stat-returns-in-If
 refuse_stat-returns-in-If t c =
-    told_of_if (constants_of c.args.known) c.args.statement.now c.in-If.field-0 c.in-If.field-1 c.in-If.yes c.get.result.now
-    c.in-If.no c.args.told.now c.refuse_stat.new.told c.refuse_else.new.told c.in-If.is c.get.ensures c.refuse_stat.ensures
+    told_of_if (constants_of c.args.known) c.args.statement.now c.in-If.field-0 c.in-If.field-1 c.in-If.yes c.get-in-If.result.now
+    c.in-If.no c.args.told.now c.refuse_stat.new.told c.refuse_else.new.told c.in-If.is c.get-in-If.ensures c.refuse_stat.ensures
     c.refuse_else.ensures
 
 pub refuse_stat-returns-in-For : goal.refuse_stat-returns-in-For
