@@ -7,6 +7,19 @@
 //! may stand where they do hangs on the whole module.
 #![tactic(auto)]
 
+// What is made while values that were made before are kept: where nothing is, they go.
+macro_rules! keeping {
+    ($($kept:ident),+; $made:expr) => {
+        match $made {
+            Ok(made) => made,
+            Err(error) => {
+                $(crate::copies::discard($kept);)+
+                return Err(error);
+            }
+        }
+    };
+}
+
 pub mod copies;
 pub mod events;
 pub mod exprs;

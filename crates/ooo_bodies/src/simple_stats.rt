@@ -213,7 +213,8 @@ fn call(
     let denotes = scopes.denotes(word.name.as_bytes());
     notes.call(CallPlace::Statement, denotes, args.len(), word.position)?;
     let trees = exprs(alloc, args, scopes, notes)?;
-    Ok(CheckedSimple::Call(resolve(alloc, scopes, word)?, trees))
+    let name = keeping!(trees; resolve(alloc, scopes, word));
+    Ok(CheckedSimple::Call(name, trees))
 }
 
 // How many arguments there are.
@@ -288,10 +289,10 @@ fn member(
         ≡ noted notes.old (member_stat_of word.now after.now arg.now scopes.now).notes) }
 {
     let name = resolve(alloc, scopes, word)?;
-    let dot = copy_word(alloc, after)?;
+    let dot = keeping!(name; copy_word(alloc, after));
     let thing = name.denotes.thing;
     let method = thing.method(after.name.as_bytes());
-    let tree = noted_argument(alloc, thing, word, after, arg, scopes, notes)?;
+    let tree = keeping!(name, dot; noted_argument(alloc, thing, word, after, arg, scopes, notes));
     Ok(CheckedSimple::Member(name, dot, method, tree))
 }
 
@@ -311,7 +312,7 @@ fn notify(
 {
     let name = resolve(alloc, scopes, word)?;
     notes.notifies(name.denotes.thing, word.position, dot);
-    let delay = time(alloc, delay, scopes, notes)?;
+    let delay = keeping!(name; time(alloc, delay, scopes, notes));
     Ok(CheckedSimple::Notify(name, dot, delay))
 }
 

@@ -396,6 +396,13 @@ pub fn stats(
     Ok(all)
 }
 
+// A statement on the heap.
+fn boxed_stat(alloc: Global, tree: CheckedStat) -> Result<Boxed<CheckedStat>, AllocError>
+    ensures { IfOk result (λ boxed. boxed ≡ tree) }
+{
+    Boxed::new(alloc, tree)
+}
+
 // A statement inside another, whose names are known in it alone.
 #[cycle(stat)]
 #[tactic(auto, unfolding(ooo_checked::specs::Stats::stat_of), using(crate::specs::Noting::noted_append))]
@@ -417,7 +424,7 @@ fn inner(
     scopes.enter()?;
     let tree = stat(alloc, context, statement, scopes, notes)?;
     scopes.leave();
-    Boxed::new(alloc, tree)
+    boxed_stat(alloc, tree)
 }
 
 // The statement after `else`, if there is one.
@@ -468,7 +475,7 @@ fn while_stat(
     ensures outer { OnOk result (left scopes.new ≡ left scopes.old) }
 {
     let test = boxed(alloc, test, scopes, notes)?;
-    let body = inner(alloc, looped(context), body, scopes, notes)?;
+    let body = keeping!(test; inner(alloc, looped(context), body, scopes, notes));
     Ok(CheckedStat::While(at, test, body))
 }
 
@@ -493,7 +500,7 @@ fn do_stat(
     ensures outer { OnOk result (left scopes.new ≡ left scopes.old) }
 {
     let body = inner(alloc, looped(context), body, scopes, notes)?;
-    let test = boxed(alloc, test, scopes, notes)?;
+    let test = keeping!(body; boxed(alloc, test, scopes, notes));
     Ok(CheckedStat::Do(at, body, test))
 }
 
@@ -529,8 +536,8 @@ fn for_head(
     ensures outer { OnOk result (left scopes.new ≡ left scopes.old) }
 {
     let begins = option_start(alloc, context, begins, scopes, notes)?;
-    let test = boxed_option(alloc, test, scopes, notes)?;
-    let after = step(alloc, after, scopes, notes)?;
+    let test = keeping!(begins; boxed_option(alloc, test, scopes, notes));
+    let after = keeping!(begins, test; step(alloc, after, scopes, notes));
     Ok(ForHead {
         begins,
         test,
@@ -562,7 +569,7 @@ fn for_stat(
 {
     scopes.enter()?;
     let head = for_head(alloc, context, begins, test, after, scopes, notes)?;
-    let body = inner(alloc, looped(context), body, scopes, notes)?;
+    let body = keeping!(head; inner(alloc, looped(context), body, scopes, notes));
     scopes.leave();
     let ForHead {
         begins,

@@ -1,5 +1,6 @@
-ghost use Rattle.std.specs.Prelude.{◌≡◌, ◌∷◌, [], ◌≤◌, IfOk};
+ghost use Rattle.std.specs.Prelude.{◌≡◌, ◌∷◌, ◌++◌, [], ◌≤◌, IfOk, Some};
 ghost use Rattle.ooo_grammar.specs.Codes.{deeper};
+ghost use Rattle.ooo_grammar.specs.Combinators.{quoted, to};
 ghost use Rattle.ooo_grammar.specs.Expressions.{after_open, after_short_type, after_unsigned_cast, after_word, arguments, bracketed, cast_to, chosen, conversion, conversion_first, converted, expressions, index, inner, inner_plain, inside_expression, long_cast, member_call, named, numeral, operand, parenthesis, plain_expression, plain_unary, prefixed, prefixed_by, short_type, some_expressions, truth, unary, whole_expression};
 ghost use Rattle.ooo_grammar.specs.Lexis.{long_after, plain_type};
 ghost use Rattle.ooo_grammar.specs.Gives.{Gives, reads_at};
@@ -16,6 +17,55 @@ use ooo_grammar::{
 use ooo_syntax::{BinaryOp, Expr, Mark, PrefixOp, Symbol, Terminal, TypeForm, TypeName, Word};
 use sqlite_items::{Boxed, Items};
 use std::alloc::{AllocError, Global};
+
+// Reads a token after what was found already, and hands that back.
+#[tactic(auto, using(ooo_grammar::specs::Steps::steps))]
+fn followed<'a, T: Drop>(
+    found: T,
+    terminal: Terminal,
+    tokens: &'a [Symbol<'a>],
+    limits: Limits,
+) -> Read<'a, T>
+    ensures { Gives (reads_at limits (to (λ _. found) (quoted terminal)) tokens.now) result }
+{
+    let (_, rest) = keeping!(found; one(tokens, terminal, limits));
+    Ok((found, rest))
+}
+
+// ---- expressions of parts
+
+fn boxed(alloc: Global, e: Expr) -> Result<Boxed<Expr>, AllocError>
+    ensures { IfOk result (λ b. b ≡ e) }
+{
+    Boxed::new(alloc, e)
+}
+
+fn indexed(alloc: Global, word: Word, at: Expr) -> Result<Expr, AllocError>
+    ensures { IfOk result (λ e. e ≡ Expr.Index word at) }
+{
+    let at = keeping!(word; boxed(alloc, at));
+    Ok(Expr::Index(word, at))
+}
+
+fn called(alloc: Global, word: Word, member: Word, value: Expr) -> Result<Expr, AllocError>
+    ensures { IfOk result (λ e. e ≡ Expr.Member word member (Some value)) }
+{
+    let value = keeping!(word, member; boxed(alloc, value));
+    Ok(Expr::Member(word, member, Some(value)))
+}
+
+fn with(mut list: Items<Expr>, more: Expr) -> Result<Items<Expr>, AllocError>
+    ensures { IfOk result (λ all. all ≡ list ++ more ∷ []) }
+{
+    keeping!(list; list.push(more));
+    Ok(list)
+}
+
+fn parenthesized(alloc: Global, opening: Mark, of: Expr) -> Result<Expr, AllocError>
+    ensures { IfOk result (λ e. e ≡ Expr.Paren opening.position of) }
+{
+    Ok(Expr::Paren(opening.position, boxed(alloc, of)?))
+}
 
 // An expression in brackets or after a sign.
 #[cycle(read)]
@@ -71,10 +121,10 @@ fn read_index<'a>(
 ) -> Read<'a, Expr>
     ensures { Gives (reads_at limits (index word) tokens.now) result }
 {
-    let (_, rest) = one(tokens, Terminal::OpenBracket, limits)?;
-    let (at, rest) = read_inner(alloc, rest, limits)?;
-    let (_, rest) = one(rest, Terminal::CloseBracket, limits)?;
-    Ok((Expr::Index(word, Boxed::new(alloc, at)?), rest))
+    let (_, rest) = keeping!(word; one(tokens, Terminal::OpenBracket, limits));
+    let (at, rest) = keeping!(word; read_inner(alloc, rest, limits));
+    let (at, rest) = keeping!(word; followed(at, Terminal::CloseBracket, rest, limits));
+    Ok((indexed(alloc, word, at)?, rest))
 }
 
 // Arguments in parentheses.
@@ -89,8 +139,7 @@ fn read_arguments<'a>(
 {
     let (_, rest) = one(tokens, Terminal::Open, limits)?;
     let (list, rest) = read_expressions(alloc, rest, limits)?;
-    let (_, rest) = one(rest, Terminal::Close, limits)?;
-    Ok((list, rest))
+    followed(list, Terminal::Close, rest, limits)
 }
 
 // Expressions and commas, or nothing.
@@ -114,16 +163,15 @@ fn read_expressions<'a>(
 #[tactic(auto, using(ooo_grammar::specs::Steps::steps))]
 fn read_item<'a>(
     alloc: Global,
-    mut list: Items<Expr>,
+    list: Items<Expr>,
     tokens: &'a [Symbol<'a>],
     limits: Limits,
 ) -> Read<'a, Items<Expr>>
     ensures { Gives (item_step limits list tokens.now) result }
 {
-    let (_, rest) = one_inside(tokens, Terminal::Comma, limits)?;
-    let (item, rest) = read_inner(alloc, rest, limits)?;
-    list.push(item)?;
-    Ok((list, rest))
+    let (_, rest) = keeping!(list; one_inside(tokens, Terminal::Comma, limits));
+    let (item, rest) = keeping!(list; read_inner(alloc, rest, limits));
+    Ok((with(list, item)?, rest))
 }
 
 // Expressions and commas.
@@ -157,19 +205,16 @@ fn read_member<'a>(
 ) -> Read<'a, Expr>
     ensures { Gives (reads_at limits (member_call word) tokens.now) result }
 {
-    let (_, rest) = one(tokens, Terminal::Dot, limits)?;
-    let (member, rest) = read_member_word(alloc, rest, limits)?;
-    let (_, rest) = one(rest, Terminal::Open, limits)?;
+    let (_, rest) = keeping!(word; one(tokens, Terminal::Dot, limits));
+    let (member, rest) = keeping!(word; read_member_word(alloc, rest, limits));
+    let (_, rest) = keeping!(word, member; one(rest, Terminal::Open, limits));
     if !begins_with_expression(rest) {
-        let (_, rest) = one(rest, Terminal::Close, limits)?;
+        let (_, rest) = keeping!(word, member; one(rest, Terminal::Close, limits));
         return Ok((Expr::Member(word, member, None), rest));
     }
-    let (value, rest) = read_inner(alloc, rest, limits)?;
-    let (_, rest) = one(rest, Terminal::Close, limits)?;
-    Ok((
-        Expr::Member(word, member, Some(Boxed::new(alloc, value)?)),
-        rest,
-    ))
+    let (value, rest) = keeping!(word, member; read_inner(alloc, rest, limits));
+    let (value, rest) = keeping!(word, member; followed(value, Terminal::Close, rest, limits));
+    Ok((called(alloc, word, member, value)?, rest))
 }
 
 // What follows a word.
@@ -187,7 +232,7 @@ fn read_after_word<'a>(
         return read_index(alloc, word, tokens, limits);
     }
     if starts(tokens, Terminal::Open) {
-        let (list, rest) = read_arguments(alloc, tokens, limits)?;
+        let (list, rest) = keeping!(word; read_arguments(alloc, tokens, limits));
         return Ok((Expr::Call(word, list), rest));
     }
     if starts(tokens, Terminal::Dot) {
@@ -219,10 +264,7 @@ fn read_prefixed_by<'a>(
     ensures { Gives (reads_at limits (prefixed_by op sign) tokens.now) result }
 {
     let (of, rest) = read_operand(alloc, tokens, limits)?;
-    Ok((
-        Expr::Prefix(sign.position, op, Boxed::new(alloc, of)?),
-        rest,
-    ))
+    Ok((Expr::Prefix(sign.position, op, boxed(alloc, of)?), rest))
 }
 
 // A prefix and its operand.
@@ -261,21 +303,20 @@ fn read_chosen<'a>(
     if !starts(tokens, Terminal::Question) {
         return Ok((condition, tokens));
     }
-    let (_, rest) = one(tokens, Terminal::Question, limits)?;
-    let (yes, rest) = read_inner(alloc, rest, limits)?;
-    let (_, rest) = one_inside(rest, Terminal::Colon, limits)?;
-    let (no, rest) = read_inner(alloc, rest, limits)?;
+    let (_, rest) = keeping!(condition; one(tokens, Terminal::Question, limits));
+    let (yes, rest) = keeping!(condition; read_inner(alloc, rest, limits));
+    let (_, rest) = keeping!(condition, yes; one_inside(rest, Terminal::Colon, limits));
+    let (no, rest) = keeping!(condition, yes; read_inner(alloc, rest, limits));
     Ok((choose(alloc, condition, yes, no)?, rest))
 }
 
 fn choose(alloc: Global, condition: Expr, yes: Expr, no: Expr) -> Result<Expr, AllocError>
     ensures { IfOk result (λ e. e ≡ Expr.Choose condition yes no) }
 {
-    Ok(Expr::Choose(
-        Boxed::new(alloc, condition)?,
-        Boxed::new(alloc, yes)?,
-        Boxed::new(alloc, no)?,
-    ))
+    let condition = keeping!(yes, no; boxed(alloc, condition));
+    let yes = keeping!(condition, no; boxed(alloc, yes));
+    let no = keeping!(condition, yes; boxed(alloc, no));
+    Ok(Expr::Choose(condition, yes, no))
 }
 
 /// The operand that an expression begins with.
@@ -313,7 +354,9 @@ fn op_limits(first: First, limits: Limits) -> Limits
 fn binary(alloc: Global, op: BinaryOp, a: Expr, b: Expr) -> Result<Expr, AllocError>
     ensures { IfOk result (λ e. e ≡ Expr.Binary op a b) }
 {
-    Ok(Expr::Binary(op, Boxed::new(alloc, a)?, Boxed::new(alloc, b)?))
+    let a = keeping!(b; boxed(alloc, a));
+    let b = keeping!(a; boxed(alloc, b));
+    Ok(Expr::Binary(op, a, b))
 }
 
 // The levels from a number on, loosest first.
@@ -383,8 +426,8 @@ fn read_converted<'a>(
 {
     let (_, rest) = one(tokens, Terminal::Open, limits)?;
     let (of, rest) = read_inner_inside(alloc, rest, limits)?;
-    let (_, rest) = one(rest, Terminal::Close, limits)?;
-    Ok((Expr::Conversion(form, Boxed::new(alloc, of)?), rest))
+    let (of, rest) = followed(of, Terminal::Close, rest, limits)?;
+    Ok((Expr::Conversion(form, boxed(alloc, of)?), rest))
 }
 
 // An expression by its first operand.
@@ -470,10 +513,7 @@ fn read_cast_to<'a>(
 {
     let (_, rest) = one(tokens, Terminal::Close, limits)?;
     let (of, rest) = read_operand(alloc, rest, limits)?;
-    Ok((
-        Expr::Cast(opening.position, form, Boxed::new(alloc, of)?),
-        rest,
-    ))
+    Ok((Expr::Cast(opening.position, form, boxed(alloc, of)?), rest))
 }
 
 // What follows a condition, one level deeper.
@@ -530,8 +570,8 @@ fn read_conversion_first<'a>(
     ensures { Gives (reads_at limits (conversion_first opening form) tokens.now) result }
 {
     let (of, rest) = read_inside(alloc, form, tokens, limits)?;
-    let (_, rest) = one(rest, Terminal::Close, limits)?;
-    Ok((Expr::Paren(opening.position, Boxed::new(alloc, of)?), rest))
+    let (of, rest) = followed(of, Terminal::Close, rest, limits)?;
+    Ok((parenthesized(alloc, opening, of)?, rest))
 }
 
 // What follows `(` and a type of one word.
@@ -633,8 +673,8 @@ fn read_parenthesis<'a>(
     ensures { Gives (reads_at limits (parenthesis opening) tokens.now) result }
 {
     let (of, rest) = read_inner_plain(alloc, tokens, limits)?;
-    let (_, rest) = one(rest, Terminal::Close, limits)?;
-    Ok((Expr::Paren(opening.position, Boxed::new(alloc, of)?), rest))
+    let (of, rest) = followed(of, Terminal::Close, rest, limits)?;
+    Ok((parenthesized(alloc, opening, of)?, rest))
 }
 
 // What follows `(`.

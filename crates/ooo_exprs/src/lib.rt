@@ -1,7 +1,21 @@
 //! Reads expressions of the grammar.
 #![tactic(auto)]
 
+// What is read while values that were read before are kept: where nothing is, they go.
+macro_rules! keeping {
+    ($($kept:ident),+; $read:expr) => {
+        match $read {
+            Ok(found) => found,
+            Err(error) => {
+                $(crate::keeping::discard($kept);)+
+                return Err(error);
+            }
+        }
+    };
+}
+
 mod expressions;
+mod keeping;
 mod own;
 mod signs;
 

@@ -1,3 +1,4 @@
 pub mod Awaits
 pub mod Blocks
 pub mod Elses
+pub mod Tails

@@ -5,6 +5,7 @@ ghost use Rattle.ooo_grammar.specs.Gives.{Gives, reads_at};
 ghost use Rattle.ooo_statements.specs.Loops.{next_item};
 ghost use Rattle.ooo_statements.specs.Spelled.{event_of};
 
+use crate::statements::followed;
 use ooo_grammar::{Limits, Read, one, read_member_word, read_word, starts};
 use ooo_syntax::{BinaryOp, Event, Expr, Symbol, Terminal, Word};
 use ooo_value::Name;
@@ -18,9 +19,8 @@ fn read_event_call<'a>(alloc: Global, tokens: &'a [Symbol<'a>], limits: Limits) 
 {
     let (_, rest) = one(tokens, Terminal::Dot, limits)?;
     let (member, rest) = read_member_word(alloc, rest, limits)?;
-    let (_, rest) = one(rest, Terminal::Open, limits)?;
-    let (_, rest) = one(rest, Terminal::Close, limits)?;
-    Ok((member, rest))
+    let (member, rest) = followed(member, Terminal::Open, rest, limits)?;
+    followed(member, Terminal::Close, rest, limits)
 }
 
 /// Reads a word that names an event, or a call of a member that gives one.

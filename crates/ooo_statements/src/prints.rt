@@ -4,6 +4,7 @@ ghost use Rattle.ooo_grammar.specs.Statements.{item, print};
 ghost use Rattle.ooo_grammar.specs.Gives.{Gives, reads_at};
 ghost use Rattle.ooo_statements.specs.Loops.{next_item};
 
+use crate::statements::followed;
 use ooo_exprs::read_sum;
 use ooo_grammar::{Limits, Read, one, read_text, starts};
 use ooo_syntax::{PrintItem, Simple, Symbol, Terminal};
@@ -30,8 +31,12 @@ fn read_print_item<'a>(
     if starts(tokens, Terminal::ScTimeStamp) {
         let (head, rest) = one(tokens, Terminal::ScTimeStamp, limits)?;
         let (_, rest) = one(rest, Terminal::Open, limits)?;
-        let (_, rest) = one(rest, Terminal::Close, limits)?;
-        return Ok((PrintItem::TimeStamp(head.position), rest));
+        return followed(
+            PrintItem::TimeStamp(head.position),
+            Terminal::Close,
+            rest,
+            limits,
+        );
     }
     let (value, rest) = read_sum(alloc, tokens, limits)?;
     Ok((PrintItem::Value(value), rest))

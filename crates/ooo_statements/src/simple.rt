@@ -10,6 +10,7 @@ ghost use Rattle.ooo_statements.specs.Parts.{cancel_call, member_call, next_trig
 
 use crate::prints::read_print;
 use crate::signs::{assign_of, begins_with_expression};
+use crate::statements::followed;
 use crate::times::read_timed_inside;
 use crate::waits::read_awaiting;
 use ooo_exprs::{read_inner_value, read_value};
@@ -49,15 +50,15 @@ fn read_after_target<'a>(
     ensures { Gives (reads_at limits (after_target to) tokens.now) result }
 {
     if starts(tokens, Terminal::PlusPlus) {
-        let (_, rest) = one(tokens, Terminal::PlusPlus, limits)?;
+        let (_, rest) = keeping!(to; one(tokens, Terminal::PlusPlus, limits));
         return Ok((Simple::StepAfter(to, StepOp::Up), rest));
     }
     if starts(tokens, Terminal::MinusMinus) {
-        let (_, rest) = one(tokens, Terminal::MinusMinus, limits)?;
+        let (_, rest) = keeping!(to; one(tokens, Terminal::MinusMinus, limits));
         return Ok((Simple::StepAfter(to, StepOp::Down), rest));
     }
-    let (op, rest) = read_assign_op(tokens, limits)?;
-    let (value, rest) = read_value(alloc, rest, limits)?;
+    let (op, rest) = keeping!(to; read_assign_op(tokens, limits));
+    let (value, rest) = keeping!(to; read_value(alloc, rest, limits));
     Ok((Simple::Assign(to, op, value), rest))
 }
 
@@ -72,8 +73,7 @@ fn read_time_in_parens<'a>(
 {
     let (_, rest) = one(tokens, Terminal::Open, limits)?;
     let (time, rest) = read_timed_inside(alloc, rest, limits)?;
-    let (_, rest) = one(rest, Terminal::Close, limits)?;
-    Ok((time, rest))
+    followed(time, Terminal::Close, rest, limits)
 }
 
 // An expression or nothing in parentheses.
@@ -87,12 +87,10 @@ fn read_option_in_parens<'a>(
 {
     let (_, rest) = one(tokens, Terminal::Open, limits)?;
     if !begins_with_expression(rest) {
-        let (_, rest) = one(rest, Terminal::Close, limits)?;
-        return Ok((None, rest));
+        return followed(None, Terminal::Close, rest, limits);
     }
     let (value, rest) = read_inner_value(alloc, rest, limits)?;
-    let (_, rest) = one(rest, Terminal::Close, limits)?;
-    Ok((Some(value), rest))
+    followed(Some(value), Terminal::Close, rest, limits)
 }
 
 // A notification, after the dot.
@@ -115,10 +113,14 @@ fn read_notify<'a>(
 fn read_cancel<'a>(name: Word, tokens: &'a [Symbol<'a>], limits: Limits) -> Read<'a, Simple>
     ensures { Gives (reads_at limits (cancel_call name) tokens.now) result }
 {
-    let (head, rest) = one(tokens, Terminal::Cancel, limits)?;
-    let (_, rest) = one(rest, Terminal::Open, limits)?;
-    let (_, rest) = one(rest, Terminal::Close, limits)?;
-    Ok((Simple::Cancel(name, head.position), rest))
+    let (head, rest) = keeping!(name; one(tokens, Terminal::Cancel, limits));
+    let (_, rest) = keeping!(name; one(rest, Terminal::Open, limits));
+    followed(
+        Simple::Cancel(name, head.position),
+        Terminal::Close,
+        rest,
+        limits,
+    )
 }
 
 // A member and its parentheses, after the dot.
@@ -206,12 +208,10 @@ fn read_arguments<'a>(
 {
     let (_, rest) = one(tokens, Terminal::Open, limits)?;
     if !begins_with_expression(rest) {
-        let (_, rest) = one(rest, Terminal::Close, limits)?;
-        return Ok((Items::new(alloc), rest));
+        return followed(Items::new(alloc), Terminal::Close, rest, limits);
     }
     let (list, rest) = read_some_arguments(alloc, rest, limits)?;
-    let (_, rest) = one(rest, Terminal::Close, limits)?;
-    Ok((list, rest))
+    followed(list, Terminal::Close, rest, limits)
 }
 
 // An index in brackets.
@@ -221,8 +221,7 @@ fn read_index<'a>(alloc: Global, tokens: &'a [Symbol<'a>], limits: Limits) -> Re
 {
     let (_, rest) = one(tokens, Terminal::OpenBracket, limits)?;
     let (at, rest) = read_inner_value(alloc, rest, limits)?;
-    let (_, rest) = one(rest, Terminal::CloseBracket, limits)?;
-    Ok((at, rest))
+    followed(at, Terminal::CloseBracket, rest, limits)
 }
 
 // What follows the word that a statement begins with.
@@ -312,8 +311,7 @@ fn read_stop<'a>(tokens: &'a [Symbol<'a>], limits: Limits) -> Read<'a, Simple>
 {
     let (head, rest) = one(tokens, Terminal::ScStop, limits)?;
     let (_, rest) = one(rest, Terminal::Open, limits)?;
-    let (_, rest) = one(rest, Terminal::Close, limits)?;
-    Ok((Simple::Stop(head.position), rest))
+    followed(Simple::Stop(head.position), Terminal::Close, rest, limits)
 }
 
 // A statement without its `;`.

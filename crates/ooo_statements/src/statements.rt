@@ -1,4 +1,4 @@
-ghost use Rattle.std.specs.Prelude.{◌≡◌, [], IfOk};
+ghost use Rattle.std.specs.Prelude.{◌≡◌, ◌∷◌, ◌++◌, [], IfOk};
 ghost use Rattle.ooo_grammar.specs.Codes.{deeper, nothing};
 ghost use Rattle.ooo_grammar.specs.Combinators.{optional, quoted, to};
 ghost use Rattle.ooo_grammar.specs.Names.{ends_open};
@@ -41,8 +41,7 @@ fn read_parens<'a>(alloc: Global, tokens: &'a [Symbol<'a>], limits: Limits) -> R
 {
     let (_, rest) = one(tokens, Terminal::Open, limits)?;
     let (test, rest) = read_inner_value(alloc, rest, limits)?;
-    let (_, rest) = one(rest, Terminal::Close, limits)?;
-    Ok((test, rest))
+    followed(test, Terminal::Close, rest, limits)
 }
 
 // The same, one level deeper.
@@ -108,12 +107,10 @@ fn read_ended_value<'a>(
     ensures { Gives (reads_at limits ended_value tokens.now) result }
 {
     if !begins_with_expression(tokens) {
-        let (_, rest) = one(tokens, Terminal::Semicolon, limits)?;
-        return Ok((None, rest));
+        return followed(None, Terminal::Semicolon, tokens, limits);
     }
     let (found, rest) = read_value(alloc, tokens, limits)?;
-    let (_, rest) = one(rest, Terminal::Semicolon, limits)?;
-    Ok((Some(found), rest))
+    followed(Some(found), Terminal::Semicolon, rest, limits)
 }
 
 // `return`, an expression or nothing, and `;`.
@@ -132,7 +129,7 @@ fn read_local_stat<'a>(alloc: Global, tokens: &'a [Symbol<'a>], limits: Limits) 
     ensures { Gives (reads_at limits local_stat tokens.now) result }
 {
     let (locals, rest) = read_local(alloc, tokens, limits)?;
-    let (_, rest) = one(rest, Terminal::Semicolon, limits)?;
+    let (locals, rest) = followed(locals, Terminal::Semicolon, rest, limits)?;
     Ok((Stat::Local(locals), rest))
 }
 
@@ -294,10 +291,17 @@ fn read_for_step<'a>(
 
 // ---- the test of a `do`
 
+fn boxed(alloc: Global, inner: Stat) -> Result<Boxed<Stat>, AllocError>
+    ensures { IfOk result (λ s. s ≡ inner) }
+{
+    Boxed::new(alloc, inner)
+}
+
 fn do_of(alloc: Global, at: Position, inner: Stat, test: Expr) -> Result<Stat, AllocError>
     ensures { IfOk result (λ s. s ≡ Stat.Do at inner test) }
 {
-    Ok(Stat::Do(at, Boxed::new(alloc, inner)?, test))
+    let inner = keeping!(test; boxed(alloc, inner));
+    Ok(Stat::Do(at, inner, test))
 }
 
 // `while`, an expression in parentheses and `;`, after the statement of a `do`.
@@ -313,7 +317,7 @@ fn read_closed_do<'a>(
 {
     let (_, rest) = keeping!(inner; one(tokens, Terminal::While, limits));
     let (test, rest) = keeping!(inner; read_parens(alloc, rest, limits));
-    let (_, rest) = keeping!(inner, test; one(rest, Terminal::Semicolon, limits));
+    let (test, rest) = keeping!(inner; followed(test, Terminal::Semicolon, rest, limits));
     Ok((do_of(alloc, at, inner, test)?, rest))
 }
 
@@ -348,20 +352,26 @@ fn read_inner_stat<'a>(alloc: Global, tokens: &'a [Symbol<'a>], limits: Limits) 
     Err(ReadError::Syntax(tokens.len()))
 }
 
+fn with(mut list: Items<Stat>, more: Stat) -> Result<Items<Stat>, AllocError>
+    ensures { IfOk result (λ all. all ≡ list ++ more ∷ []) }
+{
+    keeping!(list; list.push(more));
+    Ok(list)
+}
+
 // One more statement.
 #[cycle(statement)]
 #[tactic(auto, using(ooo_grammar::specs::Steps::steps))]
 fn read_next_stat<'a>(
     alloc: Global,
-    mut list: Items<Stat>,
+    list: Items<Stat>,
     tokens: &'a [Symbol<'a>],
     limits: Limits,
 ) -> Read<'a, Items<Stat>>
     ensures { Gives (next_stat limits list tokens.now) result }
 {
-    let (more, rest) = read_inner_stat(alloc, tokens, limits)?;
-    list.push(more)?;
-    Ok((list, rest))
+    let (more, rest) = keeping!(list; read_inner_stat(alloc, tokens, limits));
+    Ok((with(list, more)?, rest))
 }
 
 // No statement yet.
@@ -397,7 +407,7 @@ fn read_block<'a>(alloc: Global, tokens: &'a [Symbol<'a>], limits: Limits) -> Re
 {
     let (head, rest) = one(tokens, Terminal::OpenBrace, limits)?;
     let (list, rest) = read_stats(alloc, rest, limits)?;
-    let (_, rest) = one(rest, Terminal::CloseBrace, limits)?;
+    let (list, rest) = followed(list, Terminal::CloseBrace, rest, limits)?;
     Ok((Stat::Block(head.position, list), rest))
 }
 
@@ -425,7 +435,7 @@ fn read_maybe_other<'a>(
         return Ok((None, tokens));
     }
     let (other, rest) = read_other(alloc, tokens, limits)?;
-    Ok((Some(Boxed::new(alloc, other)?), rest))
+    Ok((Some(boxed(alloc, other)?), rest))
 }
 
 // What may follow the first statement of an `if`, to which an `else` could still belong or not.
@@ -454,7 +464,8 @@ fn if_of(
 ) -> Result<Stat, AllocError>
     ensures { IfOk result (λ s. s ≡ Stat.If at test yes no) }
 {
-    Ok(Stat::If(at, test, Boxed::new(alloc, yes)?, no))
+    let yes = keeping!(test, no; boxed(alloc, yes));
+    Ok(Stat::If(at, test, yes, no))
 }
 
 // The statement of an `if` and its `else`, after the condition.
@@ -489,7 +500,8 @@ fn read_if<'a>(alloc: Global, tokens: &'a [Symbol<'a>], limits: Limits) -> Read<
 fn while_of(alloc: Global, at: Position, test: Expr, inner: Stat) -> Result<Stat, AllocError>
     ensures { IfOk result (λ s. s ≡ Stat.While at test inner) }
 {
-    Ok(Stat::While(at, test, Boxed::new(alloc, inner)?))
+    let inner = keeping!(test; boxed(alloc, inner));
+    Ok(Stat::While(at, test, inner))
 }
 
 // The statement of a `while`.
@@ -543,7 +555,7 @@ fn read_for_body<'a>(
     ensures { Gives (reads_at limits (for_body at parts.0 parts.1 parts.2) tokens.now) result }
 {
     let (inner, rest) = keeping!(parts; read_inner_stat(alloc, tokens, limits));
-    match Boxed::new(alloc, inner) {
+    match boxed(alloc, inner) {
         Ok(inner) => {
             let (start, test, step) = parts;
             Ok((Stat::For(at, start, test, step, inner), rest))
@@ -618,6 +630,5 @@ pub fn read_body<'a>(
 {
     let (_, rest) = one(tokens, Terminal::OpenBrace, limits)?;
     let (list, rest) = read_stats(alloc, rest, limits)?;
-    let (_, rest) = one(rest, Terminal::CloseBrace, limits)?;
-    Ok((list, rest))
+    followed(list, Terminal::CloseBrace, rest, limits)
 }

@@ -3,6 +3,7 @@ ghost use Rattle.ooo_grammar.specs.Times.{inner_amount, named_time, timed, unit_
 ghost use Rattle.ooo_grammar.specs.Gives.{Gives, reads_at};
 
 use crate::signs::{begins_with_named_time, scale_of};
+use crate::statements::followed;
 use ooo_exprs::{read_inner_value, read_value};
 use ooo_grammar::{Limits, Read, ReadError, next, one, one_inside, starts};
 use ooo_syntax::{Mark, Symbol, Terminal, TimeForm};
@@ -45,8 +46,8 @@ fn read_inner_amount<'a>(
     ensures { Gives (reads_at limits (inner_amount head) tokens.now) result }
 {
     let (amount, rest) = read_inner_value(alloc, tokens, limits)?;
-    let (_, rest) = one_inside(rest, Terminal::Comma, limits)?;
-    let (unit, rest) = read_unit_inside(rest, limits)?;
+    let (_, rest) = keeping!(amount; one_inside(rest, Terminal::Comma, limits));
+    let (unit, rest) = keeping!(amount; read_unit_inside(rest, limits));
     Ok((TimeForm::Made(head.position, amount, unit), rest))
 }
 
@@ -66,8 +67,7 @@ pub fn read_named_time<'a>(
     let (head, rest) = one(tokens, Terminal::ScTime, limits)?;
     let (_, rest) = one(rest, Terminal::Open, limits)?;
     let (time, rest) = read_inner_amount(alloc, head, rest, limits)?;
-    let (_, rest) = one(rest, Terminal::Close, limits)?;
-    Ok((time, rest))
+    followed(time, Terminal::Close, rest, limits)
 }
 
 // The same, one level deeper.
@@ -91,8 +91,8 @@ pub fn read_timed<'a>(alloc: Global, tokens: &'a [Symbol<'a>], limits: Limits) -
         return read_named_time(alloc, tokens, limits);
     }
     let (amount, rest) = read_value(alloc, tokens, limits)?;
-    let (_, rest) = one(rest, Terminal::Comma, limits)?;
-    let (unit, rest) = read_unit_of_time(rest, limits)?;
+    let (_, rest) = keeping!(amount; one(rest, Terminal::Comma, limits));
+    let (unit, rest) = keeping!(amount; read_unit_of_time(rest, limits));
     Ok((TimeForm::Amount(amount, unit), rest))
 }
 
