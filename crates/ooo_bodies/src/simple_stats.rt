@@ -45,10 +45,10 @@ pub fn option_expr(
     }
 }
 
-// An expression, if there is one, on the heap.
+// The same of one on the heap, which stays there.
 pub(crate) fn boxed_option(
     alloc: Global,
-    e: &Option<Expr>,
+    e: &Option<Boxed<Expr>>,
     scopes: &Scopes,
     notes: &mut Notes,
 ) -> Result<Option<Boxed<CheckedExpr>>, AllocError>
@@ -59,7 +59,7 @@ pub(crate) fn boxed_option(
     match e {
         None => Ok(None),
         Some(e) => {
-            let tree = boxed(alloc, e, scopes, notes)?;
+            let tree = boxed(alloc, e.get(), scopes, notes)?;
             Ok(Some(tree))
         }
     }

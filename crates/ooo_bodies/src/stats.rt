@@ -199,7 +199,7 @@ fn boxed_start(
 fn option_start(
     alloc: Global,
     context: Context,
-    begins: &Option<ForStart>,
+    begins: &Option<Boxed<ForStart>>,
     scopes: &mut Scopes,
     notes: &mut Notes,
 ) -> Result<Option<Boxed<CheckedStart>>, AllocError>
@@ -214,7 +214,7 @@ fn option_start(
     match begins {
         None => Ok(None),
         Some(begins) => {
-            let begins = boxed_start(alloc, context, begins, scopes, notes)?;
+            let begins = boxed_start(alloc, context, begins.get(), scopes, notes)?;
             Ok(Some(begins))
         }
     }
@@ -223,7 +223,7 @@ fn option_start(
 // What a `for` does after each turn, if it says so.
 fn step(
     alloc: Global,
-    statement: &Option<Simple>,
+    statement: &Option<Boxed<Simple>>,
     scopes: &Scopes,
     notes: &mut Notes,
 ) -> Result<Option<Boxed<CheckedSimple>>, AllocError>
@@ -234,7 +234,7 @@ fn step(
     match statement {
         None => Ok(None),
         Some(statement) => {
-            let statement = boxed_simple(alloc, statement, scopes, notes)?;
+            let statement = boxed_simple(alloc, statement.get(), scopes, notes)?;
             Ok(Some(statement))
         }
     }
@@ -249,7 +249,7 @@ impl Notes {
     }
 
     // Notes a `return` with a value, or without one.
-    fn returns(&mut self, gives: Option<Kind>, value: &Option<Expr>, at: Position)
+    fn returns(&mut self, gives: Option<Kind>, value: &Option<Boxed<Expr>>, at: Position)
         ensures { self.new ≡ noted self.old (return_notes gives value.now at) }
     {
         match (gives, value) {
@@ -298,23 +298,27 @@ pub fn stat(
         }
         Stat::Empty(at) => Ok(CheckedStat::Empty(*at)),
         Stat::Local(names) => {
-            let names = boxed_local(alloc, context, names, scopes, notes)?;
+            let names = boxed_local(alloc, context, names.get(), scopes, notes)?;
             Ok(CheckedStat::Local(names))
         }
         Stat::Simple(statement) => {
-            let statement = boxed_simple(alloc, statement, scopes, notes)?;
+            let statement = boxed_simple(alloc, statement.get(), scopes, notes)?;
             Ok(CheckedStat::Simple(statement))
         }
         Stat::If(at, test, yes, no) => {
-            let test = boxed(alloc, test, scopes, notes)?;
-            let yes = inner(alloc, context, yes.get(), scopes, notes)?;
+            let condition = test.get();
+            let first = yes.get();
+            let test = boxed(alloc, condition, scopes, notes)?;
+            let yes = inner(alloc, context, first, scopes, notes)?;
             let no = otherwise(alloc, context, no, scopes, notes)?;
             Ok(CheckedStat::If(*at, test, yes, no))
         }
         Stat::While(at, test, body) => {
-            while_stat(alloc, context, *at, body.get(), test, scopes, notes)
+            while_stat(alloc, context, *at, body.get(), test.get(), scopes, notes)
         }
-        Stat::Do(at, body, test) => do_stat(alloc, context, *at, body.get(), test, scopes, notes),
+        Stat::Do(at, body, test) => {
+            do_stat(alloc, context, *at, body.get(), test.get(), scopes, notes)
+        }
         Stat::For(at, begins, test, after, body) => {
             for_stat(
                 alloc,
@@ -517,9 +521,9 @@ struct ForHead {
 fn for_head(
     alloc: Global,
     context: Context,
-    begins: &Option<ForStart>,
-    test: &Option<Expr>,
-    after: &Option<Simple>,
+    begins: &Option<Boxed<ForStart>>,
+    test: &Option<Boxed<Expr>>,
+    after: &Option<Boxed<Simple>>,
     scopes: &mut Scopes,
     notes: &mut Notes,
 ) -> Result<ForHead, AllocError>
@@ -552,9 +556,9 @@ fn for_stat(
     alloc: Global,
     context: Context,
     at: Position,
-    begins: &Option<ForStart>,
-    test: &Option<Expr>,
-    after: &Option<Simple>,
+    begins: &Option<Boxed<ForStart>>,
+    test: &Option<Boxed<Expr>>,
+    after: &Option<Boxed<Simple>>,
     body: &Stat,
     scopes: &mut Scopes,
     notes: &mut Notes,

@@ -1,5 +1,6 @@
 use crate::paper::Paper;
 use ooo_syntax::{BinaryOp, Expr, PrefixOp, TypeName, Word};
+use sqlite_items::Boxed;
 use std::alloc::AllocError;
 
 #[cycle(expression)]
@@ -99,6 +100,21 @@ pub(crate) fn value_after(
         Some(value) => {
             paper.put(sign)?;
             expression(paper, value)
+        }
+    }
+}
+
+/// The same of an expression on the heap.
+pub(crate) fn boxed_after(
+    paper: &mut Paper,
+    sign: &str,
+    value: &Option<Boxed<Expr>>,
+) -> Result<(), AllocError> {
+    match value {
+        None => Ok(()),
+        Some(value) => {
+            paper.put(sign)?;
+            expression(paper, value.get())
         }
     }
 }

@@ -1,7 +1,8 @@
-use crate::expressions::{expression, expressions, value_after};
+use crate::expressions::{boxed_after, expression, expressions, value_after};
 use crate::paper::Paper;
 use crate::times::{awaited, time};
 use ooo_syntax::{AssignOp, Expr, ForStart, Local, PrintItem, Simple, Stat, StepOp, Target};
+use sqlite_items::Boxed;
 use std::alloc::AllocError;
 
 /// Statements in their braces.
@@ -20,15 +21,15 @@ fn statement(paper: &mut Paper, stat: &Stat) -> Result<(), AllocError> {
         Stat::Block(_, body) => block(paper, body.as_slice()),
         Stat::Empty(_) => paper.put(";"),
         Stat::Local(declared) => {
-            local(paper, declared)?;
+            local(paper, declared.get())?;
             paper.put(";")
         }
         Stat::Simple(done) => {
-            simple(paper, done)?;
+            simple(paper, done.get())?;
             paper.put(";")
         }
         Stat::If(_, e, then, other) => {
-            tested(paper, "if", e)?;
+            tested(paper, "if", e.get())?;
             statement(paper, then.get())?;
             if let Some(other) = other {
                 paper.put("else")?;
@@ -37,13 +38,13 @@ fn statement(paper: &mut Paper, stat: &Stat) -> Result<(), AllocError> {
             Ok(())
         }
         Stat::While(_, e, body) => {
-            tested(paper, "while", e)?;
+            tested(paper, "while", e.get())?;
             statement(paper, body.get())
         }
         Stat::Do(_, body, e) => {
             paper.put("do")?;
             statement(paper, body.get())?;
-            tested(paper, "while", e)?;
+            tested(paper, "while", e.get())?;
             paper.put(";")
         }
         Stat::For(_, start, test, step, body) => {
@@ -53,7 +54,7 @@ fn statement(paper: &mut Paper, stat: &Stat) -> Result<(), AllocError> {
         Stat::Break(_) => paper.put("break ;"),
         Stat::Continue(_) => paper.put("continue ;"),
         Stat::Return(_, value) => {
-            value_after(paper, "return", value)?;
+            boxed_after(paper, "return", value)?;
             paper.put(if value.is_none() { "return ;" } else { ";" })
         }
     }
@@ -70,20 +71,22 @@ fn tested(paper: &mut Paper, word: &str, e: &Expr) -> Result<(), AllocError> {
 // What a `for` has in its parentheses.
 fn turns(
     paper: &mut Paper,
-    start: &Option<ForStart>,
-    test: &Option<Expr>,
-    step: &Option<Simple>,
+    start: &Option<Boxed<ForStart>>,
+    test: &Option<Boxed<Expr>>,
+    step: &Option<Boxed<Simple>>,
 ) -> Result<(), AllocError> {
     paper.put("for (")?;
     match start {
         None => {}
-        Some(ForStart::Local(declared)) => local(paper, declared)?,
-        Some(ForStart::Simple(done)) => simple(paper, done)?,
+        Some(start) => match start.get() {
+            ForStart::Local(declared) => local(paper, declared)?,
+            ForStart::Simple(done) => simple(paper, done)?,
+        },
     }
-    value_after(paper, ";", test)?;
+    boxed_after(paper, ";", test)?;
     paper.put(if test.is_none() { "; ;" } else { ";" })?;
     if let Some(step) = step {
-        simple(paper, step)?;
+        simple(paper, step.get())?;
     }
     paper.put(")")
 }

@@ -1,8 +1,9 @@
 ghost use Rattle.std.specs.Prelude.{◌≡◌, ◌∷◌, ◌++◌, [], IfOk};
 ghost use Rattle.ooo_grammar.specs.Codes.{deeper, nothing};
 ghost use Rattle.ooo_grammar.specs.Combinators.{optional, quoted, to};
+ghost use Rattle.ooo_grammar.specs.Expressions.{inner_value, value};
 ghost use Rattle.ooo_grammar.specs.Names.{ends_open};
-ghost use Rattle.ooo_grammar.specs.Statements.{after_condition, after_do, after_while, block_stat, body, break_stat, condition, continue_stat, do_stat, else_part, empty_stat, for_body, for_first, for_start, for_stat, for_step, for_test, if_stat, inner_stat, local_stat, maybe_other, other_stat, parens, return_stat, simple, simple_stat, stat, stats, while_stat};
+ghost use Rattle.ooo_grammar.specs.Statements.{after_condition, after_do, after_while, block_stat, body, break_stat, condition, continue_stat, do_stat, else_part, empty_stat, for_body, for_first, for_start, for_stat, for_step, for_test, if_stat, inner_stat, local, local_stat, maybe_other, other_stat, parens, return_stat, simple, simple_stat, stat, stats, while_stat};
 ghost use Rattle.ooo_grammar.specs.Gives.{Gives, reads_at};
 ghost use Rattle.ooo_statements.specs.Loops.{next_stat};
 ghost use Rattle.ooo_statements.specs.Parts.{closed_do, closed_step, ended_start, ended_value, opened_start};
@@ -16,7 +17,7 @@ use crate::simple::read_simple;
 use ooo_exprs::{read_inner_value, read_value};
 use ooo_grammar::{Limits, Read, ReadError, begins_with_type, one, one_inside, starts};
 use ooo_lexer::Position;
-use ooo_syntax::{Expr, ForStart, Simple, Stat, Symbol, Terminal};
+use ooo_syntax::{Expr, ForStart, Local, Simple, Stat, Symbol, Terminal};
 use sqlite_items::{Boxed, Items};
 use std::alloc::{AllocError, Global};
 
@@ -34,19 +35,101 @@ pub fn followed<'a, T: Drop>(
     Ok((found, rest))
 }
 
+// ---- what stands in a statement is read onto the heap
+
+fn boxed_expr(alloc: Global, e: Expr) -> Result<Boxed<Expr>, AllocError>
+    ensures { IfOk result (λ boxed. boxed ≡ e) }
+{
+    Boxed::new(alloc, e)
+}
+
+fn boxed_simple(alloc: Global, found: Simple) -> Result<Boxed<Simple>, AllocError>
+    ensures { IfOk result (λ boxed. boxed ≡ found) }
+{
+    Boxed::new(alloc, found)
+}
+
+fn boxed_local(alloc: Global, locals: Local) -> Result<Boxed<Local>, AllocError>
+    ensures { IfOk result (λ boxed. boxed ≡ locals) }
+{
+    Boxed::new(alloc, locals)
+}
+
+fn boxed_start(alloc: Global, found: ForStart) -> Result<Boxed<ForStart>, AllocError>
+    ensures { IfOk result (λ boxed. boxed ≡ found) }
+{
+    Boxed::new(alloc, found)
+}
+
+// A value inside parentheses.
+#[tactic(auto, using(ooo_grammar::specs::Steps::steps))]
+fn read_boxed_inner_value<'a>(
+    alloc: Global,
+    tokens: &'a [Symbol<'a>],
+    limits: Limits,
+) -> Read<'a, Boxed<Expr>>
+    ensures { Gives (reads_at limits inner_value tokens.now) result }
+{
+    let (found, rest) = read_inner_value(alloc, tokens, limits)?;
+    Ok((boxed_expr(alloc, found)?, rest))
+}
+
+// A value.
+#[tactic(auto, using(ooo_grammar::specs::Steps::steps))]
+fn read_boxed_value<'a>(
+    alloc: Global,
+    tokens: &'a [Symbol<'a>],
+    limits: Limits,
+) -> Read<'a, Boxed<Expr>>
+    ensures { Gives (reads_at limits value tokens.now) result }
+{
+    let (found, rest) = read_value(alloc, tokens, limits)?;
+    Ok((boxed_expr(alloc, found)?, rest))
+}
+
+// Locals.
+#[tactic(auto, using(ooo_grammar::specs::Steps::steps))]
+fn read_boxed_local<'a>(
+    alloc: Global,
+    tokens: &'a [Symbol<'a>],
+    limits: Limits,
+) -> Read<'a, Boxed<Local>>
+    ensures { Gives (reads_at limits local tokens.now) result }
+{
+    let (locals, rest) = read_local(alloc, tokens, limits)?;
+    Ok((boxed_local(alloc, locals)?, rest))
+}
+
+// A statement without its `;`.
+#[tactic(auto, using(ooo_grammar::specs::Steps::steps))]
+fn read_boxed_simple<'a>(
+    alloc: Global,
+    tokens: &'a [Symbol<'a>],
+    limits: Limits,
+) -> Read<'a, Boxed<Simple>>
+    ensures { Gives (reads_at limits simple tokens.now) result }
+{
+    let (found, rest) = read_simple(alloc, tokens, limits)?;
+    Ok((boxed_simple(alloc, found)?, rest))
+}
+
 // An expression in parentheses.
 #[tactic(auto, using(ooo_grammar::specs::Steps::steps), unfolding(ooo_grammar::specs::Statements::parens))]
-fn read_parens<'a>(alloc: Global, tokens: &'a [Symbol<'a>], limits: Limits) -> Read<'a, Expr>
+fn read_parens<'a>(alloc: Global, tokens: &'a [Symbol<'a>], limits: Limits) -> Read<'a, Boxed<Expr>>
     ensures { Gives (reads_at limits parens tokens.now) result }
 {
     let (_, rest) = one(tokens, Terminal::Open, limits)?;
-    let (test, rest) = read_inner_value(alloc, rest, limits)?;
+    let (test, rest) = read_boxed_inner_value(alloc, rest, limits)?;
     followed(test, Terminal::Close, rest, limits)
 }
 
 // The same, one level deeper.
 #[tactic(auto, using(ooo_grammar::specs::Steps::deeper_gives), unfolding(ooo_grammar::specs::Statements::condition))]
-fn read_condition<'a>(alloc: Global, tokens: &'a [Symbol<'a>], limits: Limits) -> Read<'a, Expr>
+fn read_condition<'a>(
+    alloc: Global,
+    tokens: &'a [Symbol<'a>],
+    limits: Limits,
+) -> Read<'a, Boxed<Expr>>
     ensures { Gives (reads_at limits condition tokens.now) result }
 {
     read_parens(alloc, tokens, limits.inside())
@@ -103,13 +186,13 @@ fn read_ended_value<'a>(
     alloc: Global,
     tokens: &'a [Symbol<'a>],
     limits: Limits,
-) -> Read<'a, Option<Expr>>
+) -> Read<'a, Option<Boxed<Expr>>>
     ensures { Gives (reads_at limits ended_value tokens.now) result }
 {
     if !begins_with_expression(tokens) {
         return followed(None, Terminal::Semicolon, tokens, limits);
     }
-    let (found, rest) = read_value(alloc, tokens, limits)?;
+    let (found, rest) = read_boxed_value(alloc, tokens, limits)?;
     followed(Some(found), Terminal::Semicolon, rest, limits)
 }
 
@@ -128,7 +211,7 @@ fn read_return<'a>(alloc: Global, tokens: &'a [Symbol<'a>], limits: Limits) -> R
 fn read_local_stat<'a>(alloc: Global, tokens: &'a [Symbol<'a>], limits: Limits) -> Read<'a, Stat>
     ensures { Gives (reads_at limits local_stat tokens.now) result }
 {
-    let (locals, rest) = read_local(alloc, tokens, limits)?;
+    let (locals, rest) = read_boxed_local(alloc, tokens, limits)?;
     let (locals, rest) = followed(locals, Terminal::Semicolon, rest, limits)?;
     Ok((Stat::Local(locals), rest))
 }
@@ -138,7 +221,7 @@ fn read_local_stat<'a>(alloc: Global, tokens: &'a [Symbol<'a>], limits: Limits) 
 fn read_simple_stat<'a>(alloc: Global, tokens: &'a [Symbol<'a>], limits: Limits) -> Read<'a, Stat>
     ensures { Gives (reads_at limits simple_stat tokens.now) result }
 {
-    let (found, rest) = read_simple(alloc, tokens, limits)?;
+    let (found, rest) = read_boxed_simple(alloc, tokens, limits)?;
     let (found, rest) = followed(found, Terminal::Semicolon, rest, limits)?;
     Ok((Stat::Simple(found), rest))
 }
@@ -158,20 +241,33 @@ fn read_for_start<'a>(alloc: Global, tokens: &'a [Symbol<'a>], limits: Limits) -
     Ok((ForStart::Simple(found), rest))
 }
 
+// The same on the heap.
+#[tactic(auto, using(ooo_grammar::specs::Steps::steps))]
+fn read_boxed_for_start<'a>(
+    alloc: Global,
+    tokens: &'a [Symbol<'a>],
+    limits: Limits,
+) -> Read<'a, Boxed<ForStart>>
+    ensures { Gives (reads_at limits for_start tokens.now) result }
+{
+    let (found, rest) = read_for_start(alloc, tokens, limits)?;
+    Ok((boxed_start(alloc, found)?, rest))
+}
+
 // What a `for` begins with or nothing, and `;`.
 #[tactic(auto, using(ooo_grammar::specs::Steps::steps))]
 fn read_ended_start<'a>(
     alloc: Global,
     tokens: &'a [Symbol<'a>],
     limits: Limits,
-) -> Read<'a, Option<ForStart>>
+) -> Read<'a, Option<Boxed<ForStart>>>
     ensures { Gives (reads_at limits ended_start tokens.now) result }
 {
     if !begins_with_for_start(tokens) {
         let (_, rest) = one(tokens, Terminal::Semicolon, limits)?;
         return Ok((None, rest));
     }
-    let (found, rest) = read_for_start(alloc, tokens, limits)?;
+    let (found, rest) = read_boxed_for_start(alloc, tokens, limits)?;
     followed(Some(found), Terminal::Semicolon, rest, limits)
 }
 
@@ -181,7 +277,7 @@ fn read_ended_start_inside<'a>(
     alloc: Global,
     tokens: &'a [Symbol<'a>],
     limits: Limits,
-) -> Read<'a, Option<ForStart>>
+) -> Read<'a, Option<Boxed<ForStart>>>
     ensures { Gives (reads_at limits (deeper ended_start) tokens.now) result }
 {
     read_ended_start(alloc, tokens, limits.inside())
@@ -193,7 +289,7 @@ fn read_opened_start<'a>(
     alloc: Global,
     tokens: &'a [Symbol<'a>],
     limits: Limits,
-) -> Read<'a, Option<ForStart>>
+) -> Read<'a, Option<Boxed<ForStart>>>
     ensures { Gives (reads_at limits opened_start tokens.now) result }
 {
     let (_, rest) = one(tokens, Terminal::Open, limits)?;
@@ -206,7 +302,7 @@ fn read_for_first<'a>(
     alloc: Global,
     tokens: &'a [Symbol<'a>],
     limits: Limits,
-) -> Read<'a, Option<ForStart>>
+) -> Read<'a, Option<Boxed<ForStart>>>
     ensures { Gives (reads_at limits for_first tokens.now) result }
 {
     read_opened_start(alloc, tokens, limits.inside())
@@ -218,7 +314,7 @@ fn read_ended_value_inside<'a>(
     alloc: Global,
     tokens: &'a [Symbol<'a>],
     limits: Limits,
-) -> Read<'a, Option<Expr>>
+) -> Read<'a, Option<Boxed<Expr>>>
     ensures { Gives (reads_at limits (deeper ended_value) tokens.now) result }
 {
     read_ended_value(alloc, tokens, limits.inside())
@@ -230,7 +326,7 @@ fn read_for_test<'a>(
     alloc: Global,
     tokens: &'a [Symbol<'a>],
     limits: Limits,
-) -> Read<'a, Option<Expr>>
+) -> Read<'a, Option<Boxed<Expr>>>
     ensures { Gives (reads_at limits for_test tokens.now) result }
 {
     read_ended_value_inside(alloc, tokens, limits.inside())
@@ -242,13 +338,13 @@ fn read_optional_simple<'a>(
     alloc: Global,
     tokens: &'a [Symbol<'a>],
     limits: Limits,
-) -> Read<'a, Option<Simple>>
+) -> Read<'a, Option<Boxed<Simple>>>
     ensures { Gives (reads_at limits (optional simple) tokens.now) result }
 {
     if !begins_with_simple(tokens) {
         return Ok((None, tokens));
     }
-    let (found, rest) = read_simple(alloc, tokens, limits)?;
+    let (found, rest) = read_boxed_simple(alloc, tokens, limits)?;
     Ok((Some(found), rest))
 }
 
@@ -258,7 +354,7 @@ fn read_optional_simple_inside<'a>(
     alloc: Global,
     tokens: &'a [Symbol<'a>],
     limits: Limits,
-) -> Read<'a, Option<Simple>>
+) -> Read<'a, Option<Boxed<Simple>>>
     ensures { Gives (reads_at limits (deeper (optional simple)) tokens.now) result }
 {
     read_optional_simple(alloc, tokens, limits.inside())
@@ -270,7 +366,7 @@ fn read_closed_step<'a>(
     alloc: Global,
     tokens: &'a [Symbol<'a>],
     limits: Limits,
-) -> Read<'a, Option<Simple>>
+) -> Read<'a, Option<Boxed<Simple>>>
     ensures { Gives (reads_at limits closed_step tokens.now) result }
 {
     let (found, rest) = read_optional_simple_inside(alloc, tokens, limits)?;
@@ -283,7 +379,7 @@ fn read_for_step<'a>(
     alloc: Global,
     tokens: &'a [Symbol<'a>],
     limits: Limits,
-) -> Read<'a, Option<Simple>>
+) -> Read<'a, Option<Boxed<Simple>>>
     ensures { Gives (reads_at limits for_step tokens.now) result }
 {
     read_closed_step(alloc, tokens, limits.inside())
@@ -297,7 +393,7 @@ fn boxed(alloc: Global, inner: Stat) -> Result<Boxed<Stat>, AllocError>
     Boxed::new(alloc, inner)
 }
 
-fn do_of(alloc: Global, at: Position, inner: Stat, test: Expr) -> Result<Stat, AllocError>
+fn do_of(alloc: Global, at: Position, inner: Stat, test: Boxed<Expr>) -> Result<Stat, AllocError>
     ensures { IfOk result (λ s. s ≡ Stat.Do at inner test) }
 {
     let inner = keeping!(test; boxed(alloc, inner));
@@ -458,7 +554,7 @@ fn read_else_part<'a>(
 fn if_of(
     alloc: Global,
     at: Position,
-    test: Expr,
+    test: Boxed<Expr>,
     yes: Stat,
     no: Option<Boxed<Stat>>,
 ) -> Result<Stat, AllocError>
@@ -474,7 +570,7 @@ fn if_of(
 fn read_after_condition<'a>(
     alloc: Global,
     at: Position,
-    test: Expr,
+    test: Boxed<Expr>,
     tokens: &'a [Symbol<'a>],
     limits: Limits,
 ) -> Read<'a, Stat>
@@ -497,7 +593,7 @@ fn read_if<'a>(alloc: Global, tokens: &'a [Symbol<'a>], limits: Limits) -> Read<
     read_after_condition(alloc, head.position, test, rest, limits)
 }
 
-fn while_of(alloc: Global, at: Position, test: Expr, inner: Stat) -> Result<Stat, AllocError>
+fn while_of(alloc: Global, at: Position, test: Boxed<Expr>, inner: Stat) -> Result<Stat, AllocError>
     ensures { IfOk result (λ s. s ≡ Stat.While at test inner) }
 {
     let inner = keeping!(test; boxed(alloc, inner));
@@ -510,7 +606,7 @@ fn while_of(alloc: Global, at: Position, test: Expr, inner: Stat) -> Result<Stat
 fn read_after_while<'a>(
     alloc: Global,
     at: Position,
-    test: Expr,
+    test: Boxed<Expr>,
     tokens: &'a [Symbol<'a>],
     limits: Limits,
 ) -> Read<'a, Stat>
@@ -548,7 +644,11 @@ fn read_do<'a>(alloc: Global, tokens: &'a [Symbol<'a>], limits: Limits) -> Read<
 fn read_for_body<'a>(
     alloc: Global,
     at: Position,
-    parts: (Option<ForStart>, Option<Expr>, Option<Simple>),
+    parts: (
+        Option<Boxed<ForStart>>,
+        Option<Boxed<Expr>>,
+        Option<Boxed<Simple>>,
+    ),
     tokens: &'a [Symbol<'a>],
     limits: Limits,
 ) -> Read<'a, Stat>

@@ -42,7 +42,8 @@ stats-parts-preserved t c =
 
 pub stat-returns-in_ok-no-in-If-clause-notes : goal.stat-returns-in_ok-no-in-If-clause-notes
 stat-returns-in_ok-no-in-If-clause-notes t c =
-    noted-If c.in-If.at c.in-If.test c.in-If.yes c.get.result.now c.in-If.no c.args.statement.now c.args.context
+    noted-If c.in-If.at c.in-If.test c.in-If.yes c.get-first.result.now c.in-If.no c.args.statement.now c.args.context
     c.args.scopes.now c.inner.new.scopes c.args.notes.now c.boxed.new.notes c.inner.new.notes c.otherwise.new.notes
-    c.in-If.is c.get.ensures c.in_ok-yes-in-If.ensures.scope c.in_ok-test-in-If.ensures.notes c.in_ok-yes-in-If.ensures.notes
+    c.in-If.is c.get-first.ensures c.in_ok-yes-in-If.ensures.scope
+    (rw c.get-condition.ensures at c.in_ok-test-in-If.ensures.notes) c.in_ok-yes-in-If.ensures.notes
     c.in_ok-no-in-If.ensures.notes
