@@ -34,7 +34,7 @@ fn followed<'a, T: Drop>(
 
 // ---- expressions of parts
 
-fn boxed(alloc: Global, e: Expr) -> Result<Boxed<Expr>, AllocError>
+pub(crate) fn boxed(alloc: Global, e: Expr) -> Result<Boxed<Expr>, AllocError>
     ensures { IfOk result (λ b. b ≡ e) }
 {
     Boxed::new(alloc, e)

@@ -19,4 +19,4 @@ mod keeping;
 mod own;
 mod signs;
 
-pub use own::{read_inner_value, read_sum, read_value};
+pub use own::{read_boxed_inner_value, read_boxed_value, read_inner_value, read_sum, read_value};

@@ -2,9 +2,10 @@ ghost use Rattle.std.specs.Prelude.{◌≡◌};
 ghost use Rattle.ooo_grammar.specs.Expressions.{counted_sum, inner_value, sum, value};
 ghost use Rattle.ooo_grammar.specs.Gives.{Gives, reads_at};
 
-use crate::expressions::{First, read_inner, read_level, read_whole};
+use crate::expressions::{First, boxed, read_inner, read_level, read_whole};
 use ooo_grammar::{Limits, Read};
 use ooo_syntax::{Expr, Symbol};
+use sqlite_items::Boxed;
 use std::alloc::Global;
 
 /// Reads an expression that is part of no other.
@@ -25,6 +26,32 @@ pub fn read_inner_value<'a>(
     ensures { Gives (reads_at limits inner_value tokens.now) result }
 {
     read_inner(alloc, tokens, limits.enter(tokens))
+}
+
+/// Reads an expression that is part of no other, onto the heap.
+#[tactic(auto, using(ooo_grammar::specs::Steps::steps))]
+pub fn read_boxed_value<'a>(
+    alloc: Global,
+    tokens: &'a [Symbol<'a>],
+    limits: Limits,
+) -> Read<'a, Boxed<Expr>>
+    ensures { Gives (reads_at limits value tokens.now) result }
+{
+    let (found, rest) = read_value(alloc, tokens, limits)?;
+    Ok((boxed(alloc, found)?, rest))
+}
+
+/// The same, one level deeper.
+#[tactic(auto, using(ooo_grammar::specs::Steps::steps))]
+pub fn read_boxed_inner_value<'a>(
+    alloc: Global,
+    tokens: &'a [Symbol<'a>],
+    limits: Limits,
+) -> Read<'a, Boxed<Expr>>
+    ensures { Gives (reads_at limits inner_value tokens.now) result }
+{
+    let (found, rest) = read_inner_value(alloc, tokens, limits)?;
+    Ok((boxed(alloc, found)?, rest))
 }
 
 // The level `sum`, without a bound of its own.

@@ -109,11 +109,11 @@ pub fn arg(
     match arg {
         Arg::Text(text) => Ok(CheckedArg::Text(copy_text(alloc, text)?)),
         Arg::Time(time) => {
-            let time = constant_time(alloc, time, scopes, notes)?;
+            let time = constant_time(alloc, time.get(), scopes, notes)?;
             Ok(CheckedArg::Time(time))
         }
         Arg::Value(e) => {
-            let value = constant(alloc, e, scopes, notes)?;
+            let value = constant(alloc, e.get(), scopes, notes)?;
             Ok(CheckedArg::Value(value))
         }
     }

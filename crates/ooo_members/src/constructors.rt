@@ -118,7 +118,7 @@ fn note_own_name(
 {
     match args {
         [Arg::Text(_)] => {}
-        [Arg::Value(e)] => note_name_due(alloc, e, scopes, notes)?,
+        [Arg::Value(e)] => note_name_due(alloc, e.get(), scopes, notes)?,
         _ => notes.breaks(TypeBreach::WrongCount, at),
     }
     Ok(())

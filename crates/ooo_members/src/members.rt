@@ -41,7 +41,7 @@ pub fn constant_named(
     ensures notes { OnOk result (notes.new
         ≡ noted notes.old (constant_named name declared.now scopes.now).notes) }
 {
-    let value = constant(alloc, &declared.value, scopes, notes)?;
+    let value = constant(alloc, declared.value.get(), scopes, notes)?;
     Ok(CheckedConstant {
         is_static: declared.is_static,
         form: declared.form,
@@ -64,11 +64,11 @@ fn field_form(
     match form {
         FieldForm::Plain => Ok(CheckedFieldForm::Plain),
         FieldForm::Length(e) => {
-            let length = constant(alloc, e, scopes, notes)?;
+            let length = constant(alloc, e.get(), scopes, notes)?;
             Ok(CheckedFieldForm::Length(length))
         }
         FieldForm::Value(e) => {
-            let value = constant(alloc, e, scopes, notes)?;
+            let value = constant(alloc, e.get(), scopes, notes)?;
             Ok(CheckedFieldForm::Value(value))
         }
     }

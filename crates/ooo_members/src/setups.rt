@@ -223,7 +223,7 @@ pub fn setup(
             let b = binding(alloc, modules, b, scopes, notes)?;
             Ok(CheckedSetup::Bind(b))
         }
-        Setup::Set(word, e) => set(alloc, word, e, scopes, notes),
+        Setup::Set(word, e) => set(alloc, word, e.get(), scopes, notes),
     }
 }
 

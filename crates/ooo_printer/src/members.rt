@@ -27,7 +27,7 @@ pub(crate) fn constant(paper: &mut Paper, made: &Constant) -> Result<(), AllocEr
     paper.type_name(&made.form)?;
     paper.word(&made.name)?;
     paper.put("=")?;
-    expression(paper, &made.value)?;
+    expression(paper, made.value.get())?;
     paper.put(";")
 }
 
@@ -87,12 +87,12 @@ fn fields(paper: &mut Paper, made: &Fields) -> Result<(), AllocError> {
             FieldForm::Plain => {}
             FieldForm::Length(e) => {
                 paper.put("[")?;
-                expression(paper, e)?;
+                expression(paper, e.get())?;
                 paper.put("]")?;
             }
             FieldForm::Value(e) => {
                 paper.put("=")?;
-                expression(paper, e)?;
+                expression(paper, e.get())?;
             }
         }
     }

@@ -12,8 +12,8 @@ pub(crate) fn args(paper: &mut Paper, list: &[Arg]) -> Result<(), AllocError> {
         paper.between(n, ",")?;
         match arg {
             Arg::Text(text) => paper.text(text)?,
-            Arg::Time(form) => time(paper, form)?,
-            Arg::Value(e) => expression(paper, e)?,
+            Arg::Time(form) => time(paper, form.get())?,
+            Arg::Value(e) => expression(paper, e.get())?,
         }
     }
     Ok(())
@@ -93,7 +93,7 @@ fn setup(paper: &mut Paper, step: &Setup) -> Result<(), AllocError> {
         Setup::Set(name, e) => {
             paper.word(name)?;
             paper.put("=")?;
-            expression(paper, e)?;
+            expression(paper, e.get())?;
             paper.put(";")
         }
     }

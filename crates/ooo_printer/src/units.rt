@@ -79,7 +79,7 @@ fn started(paper: &mut Paper, start: &Option<StartForm>) -> Result<(), AllocErro
         Some(StartForm::Open(_)) => paper.put("sc_start ( ) ;"),
         Some(StartForm::Limited(_, form)) => {
             paper.put("sc_start (")?;
-            time(paper, form)?;
+            time(paper, form.get())?;
             paper.put(") ;")
         }
     }
@@ -95,7 +95,7 @@ fn main_item(paper: &mut Paper, item: &MainItem) -> Result<(), AllocError> {
             paper.put("(")?;
             paper.text(text)?;
             paper.put(",")?;
-            time(paper, period)?;
+            time(paper, period.get())?;
             paper.put(") ;")
         }
         MainItem::Instance(module_name, name, list) => {

@@ -30,4 +30,6 @@ mod waits;
 pub use events::read_event;
 pub use signs::{begins_with_named_time, begins_with_unit_of_time};
 pub use statements::{followed, read_body};
-pub use times::{read_named_time, read_timed, read_timed_inside, read_unit_of_time};
+pub use times::{
+    read_boxed_named_time, read_boxed_timed, read_boxed_timed_inside, read_unit_of_time,
+};

@@ -1,7 +1,6 @@
 ghost use Rattle.std.specs.Prelude.{◌≡◌, ◌∷◌, ◌++◌, [], IfOk};
 ghost use Rattle.ooo_grammar.specs.Codes.{deeper, nothing};
 ghost use Rattle.ooo_grammar.specs.Combinators.{optional, quoted, to};
-ghost use Rattle.ooo_grammar.specs.Expressions.{inner_value, value};
 ghost use Rattle.ooo_grammar.specs.Names.{ends_open};
 ghost use Rattle.ooo_grammar.specs.Statements.{after_condition, after_do, after_while, block_stat, body, break_stat, condition, continue_stat, do_stat, else_part, empty_stat, for_body, for_first, for_start, for_stat, for_step, for_test, if_stat, inner_stat, local, local_stat, maybe_other, other_stat, parens, return_stat, simple, simple_stat, stat, stats, while_stat};
 ghost use Rattle.ooo_grammar.specs.Gives.{Gives, reads_at};
@@ -14,7 +13,7 @@ use crate::signs::{
     begins_with_expression, begins_with_for_start, begins_with_simple, begins_with_statement,
 };
 use crate::simple::read_simple;
-use ooo_exprs::{read_inner_value, read_value};
+use ooo_exprs::{read_boxed_inner_value, read_boxed_value};
 use ooo_grammar::{Limits, Read, ReadError, begins_with_type, one, one_inside, starts};
 use ooo_lexer::Position;
 use ooo_syntax::{Expr, ForStart, Local, Simple, Stat, Symbol, Terminal};
@@ -37,12 +36,6 @@ pub fn followed<'a, T: Drop>(
 
 // ---- what stands in a statement is read onto the heap
 
-fn boxed_expr(alloc: Global, e: Expr) -> Result<Boxed<Expr>, AllocError>
-    ensures { IfOk result (λ boxed. boxed ≡ e) }
-{
-    Boxed::new(alloc, e)
-}
-
 fn boxed_simple(alloc: Global, found: Simple) -> Result<Boxed<Simple>, AllocError>
     ensures { IfOk result (λ boxed. boxed ≡ found) }
 {
@@ -59,32 +52,6 @@ fn boxed_start(alloc: Global, found: ForStart) -> Result<Boxed<ForStart>, AllocE
     ensures { IfOk result (λ boxed. boxed ≡ found) }
 {
     Boxed::new(alloc, found)
-}
-
-// A value inside parentheses.
-#[tactic(auto, using(ooo_grammar::specs::Steps::steps))]
-fn read_boxed_inner_value<'a>(
-    alloc: Global,
-    tokens: &'a [Symbol<'a>],
-    limits: Limits,
-) -> Read<'a, Boxed<Expr>>
-    ensures { Gives (reads_at limits inner_value tokens.now) result }
-{
-    let (found, rest) = read_inner_value(alloc, tokens, limits)?;
-    Ok((boxed_expr(alloc, found)?, rest))
-}
-
-// A value.
-#[tactic(auto, using(ooo_grammar::specs::Steps::steps))]
-fn read_boxed_value<'a>(
-    alloc: Global,
-    tokens: &'a [Symbol<'a>],
-    limits: Limits,
-) -> Read<'a, Boxed<Expr>>
-    ensures { Gives (reads_at limits value tokens.now) result }
-{
-    let (found, rest) = read_value(alloc, tokens, limits)?;
-    Ok((boxed_expr(alloc, found)?, rest))
 }
 
 // Locals.

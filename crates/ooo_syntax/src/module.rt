@@ -2,14 +2,14 @@ use crate::expr::Expr;
 use crate::leaves::{Text, TypeName, Word};
 use crate::stat::{Event, Stat, TimeForm};
 use ooo_lexer::Position;
-use sqlite_items::Items;
+use sqlite_items::{Boxed, Items};
 
 /// An argument of a channel, an instance or an initialiser.
 #[derive(Drop)]
 pub enum Arg {
     Text(Text),
-    Time(TimeForm),
-    Value(Expr),
+    Time(Boxed<TimeForm>),
+    Value(Boxed<Expr>),
 }
 
 /// `const int a = e ;` of a file, a module or `sc_main`.
@@ -18,7 +18,7 @@ pub struct Constant {
     pub is_static: bool,
     pub form: TypeName,
     pub name: Word,
-    pub value: Expr,
+    pub value: Boxed<Expr>,
 }
 
 /// What stands behind a field's name.
@@ -26,9 +26,9 @@ pub struct Constant {
 pub enum FieldForm {
     Plain,
     /// `[ e ]`
-    Length(Expr),
+    Length(Boxed<Expr>),
     /// `= e`
-    Value(Expr),
+    Value(Boxed<Expr>),
 }
 
 /// A variable of a module.
@@ -148,7 +148,7 @@ pub enum Setup {
     Sensitive(Position, Items<Event>),
     DontInitialize(Position),
     Bind(Binding),
-    Set(Word, Expr),
+    Set(Word, Boxed<Expr>),
 }
 
 /// A constructor.

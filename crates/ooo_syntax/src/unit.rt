@@ -2,7 +2,7 @@ use crate::leaves::{Number, Text, TypeName, Word};
 use crate::module::{Arg, Binding, ChannelWord, Constant, Module};
 use crate::stat::TimeForm;
 use ooo_lexer::Position;
-use sqlite_items::Items;
+use sqlite_items::{Boxed, Items};
 
 /// A namespace that a text uses.
 #[derive(Clone, Copy, Debug, PartialEq, Eq)]
@@ -38,7 +38,7 @@ pub enum MainItem {
     Constant(Constant),
     Channel(MainChannel),
     /// `sc_clock c ( "c" , 10 , SC_NS ) ;`
-    Clock(Position, Word, Text, TimeForm),
+    Clock(Position, Word, Text, Boxed<TimeForm>),
     /// `M a ( "a" ) ;`
     Instance(Word, Word, Items<Arg>),
     Bind(Binding),
@@ -59,7 +59,7 @@ pub enum StartForm {
     /// `sc_start ( )`
     Open(Position),
     /// `sc_start ( 1 , SC_SEC )`
-    Limited(Position, TimeForm),
+    Limited(Position, Boxed<TimeForm>),
 }
 
 /// `sc_main`

@@ -358,7 +358,7 @@ fn main_item(
             Ok(CheckedMainItem::Channel(c))
         }
         MainItem::Clock(at, word, text, period) => {
-            clock(alloc, outside, *at, word, text, period, scopes, notes)
+            clock(alloc, outside, *at, word, text, period.get(), scopes, notes)
         }
         MainItem::Instance(module_word, word, given) => {
             instance(alloc, outside, module_word, word, given, scopes, notes)
@@ -409,7 +409,7 @@ fn option_start_form(
         None => Ok(None),
         Some(StartForm::Open(at)) => Ok(Some(CheckedStartForm::Open(*at))),
         Some(StartForm::Limited(at, time)) => {
-            let time = constant_time(alloc, time, scopes, notes)?;
+            let time = constant_time(alloc, time.get(), scopes, notes)?;
             Ok(Some(CheckedStartForm::Limited(*at, time)))
         }
     }

@@ -6,14 +6,14 @@ ghost use Rattle.ooo_units.specs.Loops.{arg_step};
 ghost use Rattle.ooo_units.specs.Parts.{maybe_args};
 
 use crate::signs::begins_with_arg;
-use ooo_exprs::read_value;
+use ooo_exprs::read_boxed_value;
 use ooo_grammar::{Limits, Read, one, read_text, starts};
 use ooo_statements::{
-    begins_with_named_time, begins_with_unit_of_time, read_named_time, read_unit_of_time,
+    begins_with_named_time, begins_with_unit_of_time, read_boxed_named_time, read_unit_of_time,
 };
-use ooo_syntax::{Arg, Symbol, Terminal, TimeForm};
+use ooo_syntax::{Arg, Expr, Symbol, Terminal, TimeForm};
 use ooo_time::Scale;
-use sqlite_items::Items;
+use sqlite_items::{Boxed, Items};
 use std::alloc::{AllocError, Global};
 
 // Whether the last argument is a value.
@@ -24,13 +24,20 @@ fn ends_in_value(list: &Items<Arg>) -> bool
     matches!(list.as_slice().last(), Some(Arg::Value(_)))
 }
 
+// An amount and its unit.
+fn amount_of(alloc: Global, amount: Boxed<Expr>, unit: Scale) -> Result<Boxed<TimeForm>, AllocError>
+    ensures { IfOk result (λ time. time ≡ TimeForm.Amount amount unit) }
+{
+    Boxed::new(alloc, TimeForm::Amount(amount.into_inner(), unit))
+}
+
 // The arguments, of which the last value has this unit.
 #[tactic(auto, using(crate::proofs::Args::units))]
-fn with_unit(unit: Scale, mut list: Items<Arg>) -> Result<Items<Arg>, AllocError>
+fn with_unit(alloc: Global, unit: Scale, mut list: Items<Arg>) -> Result<Items<Arg>, AllocError>
     ensures { IfOk result (λ xs. xs ≡ with_unit unit list) }
 {
     match list.pop() {
-        Some(Arg::Value(amount)) => list.push(Arg::Time(TimeForm::Amount(amount, unit)))?,
+        Some(Arg::Value(amount)) => list.push(Arg::Time(amount_of(alloc, amount, unit)?))?,
         Some(Arg::Text(text)) => list.push(Arg::Text(text))?,
         Some(Arg::Time(time)) => list.push(Arg::Time(time))?,
         None => {}
@@ -48,10 +55,10 @@ fn read_arg_part<'a>(alloc: Global, tokens: &'a [Symbol<'a>], limits: Limits) ->
         return Ok((Arg::Text(text), rest));
     }
     if begins_with_named_time(tokens) {
-        let (time, rest) = read_named_time(alloc, tokens, limits)?;
+        let (time, rest) = read_boxed_named_time(alloc, tokens, limits)?;
         return Ok((Arg::Time(time), rest));
     }
-    let (value, rest) = read_value(alloc, tokens, limits)?;
+    let (value, rest) = read_boxed_value(alloc, tokens, limits)?;
     Ok((Arg::Value(value), rest))
 }
 
@@ -67,7 +74,7 @@ fn read_scale_or_arg<'a>(
 {
     if begins_with_unit_of_time(tokens) {
         let (unit, rest) = read_unit_of_time(tokens, limits)?;
-        return Ok((with_unit(unit, list)?, rest));
+        return Ok((with_unit(alloc, unit, list)?, rest));
     }
     let (more, rest) = read_arg_part(alloc, tokens, limits)?;
     list.push(more)?;

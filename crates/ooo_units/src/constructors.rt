@@ -8,7 +8,7 @@ ghost use Rattle.ooo_units.specs.Parts.{all_setups, braced_setups, further_param
 use crate::arguments::read_args_inside;
 use crate::members::{read_next_param, read_parens_word};
 use crate::signs::{begins_with_arg, begins_with_setup, none_yet};
-use ooo_exprs::read_value;
+use ooo_exprs::read_boxed_value;
 use ooo_grammar::{
     Limits, Read, begins_with_member_word, one, one_inside, read_event_word, read_member_word,
     read_word, starts,
@@ -204,7 +204,7 @@ fn read_setup_tail<'a>(
         return Ok((Setup::Bind(binding), rest));
     }
     let (_, rest) = one(tokens, Terminal::Assign, limits)?;
-    let (value, rest) = read_value(alloc, rest, limits)?;
+    let (value, rest) = read_boxed_value(alloc, rest, limits)?;
     let (_, rest) = one(rest, Terminal::Semicolon, limits)?;
     Ok((Setup::Set(word, value), rest))
 }

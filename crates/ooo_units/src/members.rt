@@ -12,7 +12,7 @@ use crate::constructors::{read_named_constructor, read_word_in_parens, read_writ
 use crate::signs::{
     begins_with_channel, begins_with_member, begins_with_port, channel_of, none_yet, port_of,
 };
-use ooo_exprs::{read_inner_value, read_value};
+use ooo_exprs::{read_boxed_inner_value, read_boxed_value};
 use ooo_grammar::{
     Limits, Read, ReadError, begins_with_type, next, one, read_type, read_word, starts,
 };
@@ -64,7 +64,7 @@ fn read_constant_tail<'a>(
     let (form, rest) = read_type(tokens, limits)?;
     let (name, rest) = read_word(alloc, rest, limits)?;
     let (_, rest) = one(rest, Terminal::Assign, limits)?;
-    let (value, rest) = read_value(alloc, rest, limits)?;
+    let (value, rest) = read_boxed_value(alloc, rest, limits)?;
     let (_, rest) = one(rest, Terminal::Semicolon, limits)?;
     Ok((
         Constant {
@@ -106,13 +106,13 @@ fn read_field_form<'a>(
 {
     if starts(tokens, Terminal::OpenBracket) {
         let (_, rest) = one(tokens, Terminal::OpenBracket, limits)?;
-        let (length, rest) = read_inner_value(alloc, rest, limits)?;
+        let (length, rest) = read_boxed_inner_value(alloc, rest, limits)?;
         let (_, rest) = one(rest, Terminal::CloseBracket, limits)?;
         return Ok((FieldForm::Length(length), rest));
     }
     if starts(tokens, Terminal::Assign) {
         let (_, rest) = one(tokens, Terminal::Assign, limits)?;
-        let (value, rest) = read_value(alloc, rest, limits)?;
+        let (value, rest) = read_boxed_value(alloc, rest, limits)?;
         return Ok((FieldForm::Value(value), rest));
     }
     Ok((FieldForm::Plain, tokens))

@@ -17,7 +17,7 @@ use ooo_grammar::{
     Limits, Read, ReadError, begins_with_word, next, one, one_inside, read_literal, read_text,
     read_word, starts,
 };
-use ooo_statements::{followed, read_timed, read_timed_inside};
+use ooo_statements::{followed, read_boxed_timed, read_boxed_timed_inside};
 use ooo_syntax::{
     Library, Main, MainChannel, MainItem, MainValues, Mark, Number, StartForm, Symbol, Terminal,
     TimeForm, Unit, UnitItem, Word,
@@ -191,7 +191,7 @@ fn read_clock_parts<'a>(
 {
     let (text, rest) = read_text(alloc, tokens, limits)?;
     let (_, rest) = one(rest, Terminal::Comma, limits)?;
-    let (time, rest) = read_timed(alloc, rest, limits)?;
+    let (time, rest) = read_boxed_timed(alloc, rest, limits)?;
     Ok((MainItem::Clock(first.position, word, text, time), rest))
 }
 
@@ -290,7 +290,7 @@ fn read_start_tail<'a>(
         let (_, rest) = one(tokens, Terminal::Close, limits)?;
         return Ok((StartForm::Open(first.position), rest));
     }
-    let (time, rest) = read_timed_inside(alloc, tokens, limits)?;
+    let (time, rest) = read_boxed_timed_inside(alloc, tokens, limits)?;
     let (_, rest) = one(rest, Terminal::Close, limits)?;
     Ok((StartForm::Limited(first.position, time), rest))
 }
