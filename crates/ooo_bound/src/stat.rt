@@ -74,13 +74,19 @@ pub struct LinedSimple {
 pub enum BoundStat {
     /// The statements one after the other. A declaration of locals is a block of them.
     Block(Items<BoundStat>),
-    Simple(LinedSimple),
-    If(u32, BoundExpr, Boxed<BoundStat>, Option<Boxed<BoundStat>>),
-    While(u32, BoundExpr, Boxed<BoundStat>),
-    Do(u32, Boxed<BoundStat>, BoundExpr),
+    Simple(Boxed<LinedSimple>),
+    If(u32, Boxed<BoundExpr>, Boxed<BoundStat>, Option<Boxed<BoundStat>>),
+    While(u32, Boxed<BoundExpr>, Boxed<BoundStat>),
+    Do(u32, Boxed<BoundStat>, Boxed<BoundExpr>),
     /// What it begins with, its test, what it does after each turn, and its body.
-    For(u32, Items<LinedSimple>, Option<BoundExpr>, Option<LinedSimple>, Boxed<BoundStat>),
+    For(
+        u32,
+        Items<LinedSimple>,
+        Option<Boxed<BoundExpr>>,
+        Option<Boxed<LinedSimple>>,
+        Boxed<BoundStat>,
+    ),
     Break(u32),
     Continue(u32),
-    Return(u32, Option<BoundExpr>),
+    Return(u32, Option<Boxed<BoundExpr>>),
 }

@@ -2,6 +2,7 @@ use crate::expressions::expression;
 use crate::paper::Paper;
 use crate::simple::lined;
 use ooo_bound::{BoundExpr, BoundStat, LinedSimple};
+use sqlite_items::Boxed;
 use std::alloc::AllocError;
 
 /// Statements in their braces.
@@ -19,9 +20,9 @@ pub(crate) fn block(paper: &mut Paper, body: &[BoundStat]) -> Result<(), AllocEr
 fn statement(paper: &mut Paper, stat: &BoundStat) -> Result<(), AllocError> {
     match stat {
         BoundStat::Block(body) => block(paper, body.as_slice()),
-        BoundStat::Simple(simple) => lined(paper, simple),
+        BoundStat::Simple(simple) => lined(paper, simple.get()),
         BoundStat::If(line, test, yes, no) => {
-            tested(paper, *line, "if", test)?;
+            tested(paper, *line, "if", test.get())?;
             statement(paper, yes.get())?;
             if let Some(no) = no {
                 paper.put(" else ")?;
@@ -30,14 +31,14 @@ fn statement(paper: &mut Paper, stat: &BoundStat) -> Result<(), AllocError> {
             Ok(())
         }
         BoundStat::While(line, test, body) => {
-            tested(paper, *line, "while", test)?;
+            tested(paper, *line, "while", test.get())?;
             statement(paper, body.get())
         }
         BoundStat::Do(line, body, test) => {
             head(paper, *line, "do ")?;
             statement(paper, body.get())?;
             paper.put(" while (")?;
-            expression(paper, test)?;
+            expression(paper, test.get())?;
             paper.put(")")
         }
         BoundStat::For(line, begins, test, after, body) => {
@@ -74,8 +75,8 @@ fn turns(
     paper: &mut Paper,
     line: u32,
     begins: &[LinedSimple],
-    test: &Option<BoundExpr>,
-    after: &Option<LinedSimple>,
+    test: &Option<Boxed<BoundExpr>>,
+    after: &Option<Boxed<LinedSimple>>,
 ) -> Result<(), AllocError> {
     head(paper, line, "for (")?;
     for simple in begins {
@@ -84,18 +85,22 @@ fn turns(
     value_after(paper, "; ", test)?;
     paper.put("; ")?;
     if let Some(after) = after {
-        lined(paper, after)?;
+        lined(paper, after.get())?;
     }
     paper.put(") ")
 }
 
 // A sign, and an expression behind it, if there is one.
-fn value_after(paper: &mut Paper, sign: &str, value: &Option<BoundExpr>) -> Result<(), AllocError> {
+fn value_after(
+    paper: &mut Paper,
+    sign: &str,
+    value: &Option<Boxed<BoundExpr>>,
+) -> Result<(), AllocError> {
     match value {
         None => Ok(()),
         Some(e) => {
             paper.put(sign)?;
-            expression(paper, e)
+            expression(paper, e.get())
         }
     }
 }

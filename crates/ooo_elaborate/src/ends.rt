@@ -53,11 +53,11 @@ fn hold_exprs(process: u32, es: &[BoundExpr], all: &mut Items<Held>)
 }
 
 // The same of an expression, if there is one.
-fn hold_option(process: u32, e: &Option<BoundExpr>, all: &mut Items<Held>)
+fn hold_option(process: u32, e: &Option<Boxed<BoundExpr>>, all: &mut Items<Held>)
     ensures { all.new ≡ option_holds process e.now all.old }
 {
     if let Some(e) = e {
-        hold_expr(process, e, all);
+        hold_expr(process, e.get(), all);
     }
 }
 
@@ -163,11 +163,11 @@ fn hold_lined(process: u32, parts: &[LinedSimple], all: &mut Items<Held>)
 }
 
 // The same of what a `for` does after each turn.
-fn hold_after(process: u32, after: &Option<LinedSimple>, all: &mut Items<Held>)
+fn hold_after(process: u32, after: &Option<Boxed<LinedSimple>>, all: &mut Items<Held>)
     ensures { all.new ≡ after_holds process after.now all.old }
 {
     if let Some(after) = after {
-        hold_simple(process, &after.simple, all);
+        hold_simple(process, &after.get().simple, all);
     }
 }
 
@@ -190,19 +190,19 @@ fn hold_stat(process: u32, stat: &BoundStat, all: &mut Items<Held>)
 {
     match stat {
         BoundStat::Block(body) => hold_body(process, body.as_slice(), all),
-        BoundStat::Simple(part) => hold_simple(process, &part.simple, all),
+        BoundStat::Simple(part) => hold_simple(process, &part.get().simple, all),
         BoundStat::If(_, test, yes, no) => {
-            hold_expr(process, test, all);
+            hold_expr(process, test.get(), all);
             hold_stat(process, yes.get(), all);
             hold_else(process, no, all);
         }
         BoundStat::While(_, test, body) => {
-            hold_expr(process, test, all);
+            hold_expr(process, test.get(), all);
             hold_stat(process, body.get(), all);
         }
         BoundStat::Do(_, body, test) => {
             hold_stat(process, body.get(), all);
-            hold_expr(process, test, all);
+            hold_expr(process, test.get(), all);
         }
         BoundStat::For(_, begin, test, after, body) => {
             hold_lined(process, begin.as_slice(), all);

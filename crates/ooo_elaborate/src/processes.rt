@@ -67,10 +67,11 @@ pub(crate) fn view_in<'a>(modules: Modules<'a>, instance: Option<&WalkedInstance
 }
 
 // A step of a clock's body.
-fn clock_step(line: u32, simple: BoundSimple) -> BoundStat
-    ensures { result ≡ clock_step line simple }
+fn clock_step(alloc: Global, line: u32, simple: BoundSimple) -> Result<BoundStat, AllocError>
+    ensures { IfOk result (λ step. step ≡ clock_step line simple) }
 {
-    BoundStat::Simple(LinedSimple { line, simple })
+    let lined = Boxed::new(alloc, LinedSimple { line, simple })?;
+    Ok(BoundStat::Simple(lined))
 }
 
 // The clock's signal gets a value.
@@ -102,12 +103,12 @@ fn clock_body(
     ensures { IfOk result (λ body. body ≡ clock_body channel half line) }
 {
     let mut steps = Items::new(alloc);
-    steps.push(clock_step(line, clock_write(channel, true)))?;
-    steps.push(clock_step(line, clock_wait(alloc, half)))?;
-    steps.push(clock_step(line, clock_write(channel, false)))?;
-    steps.push(clock_step(line, clock_wait(alloc, half)))?;
+    steps.push(clock_step(alloc, line, clock_write(channel, true))?)?;
+    steps.push(clock_step(alloc, line, clock_wait(alloc, half))?)?;
+    steps.push(clock_step(alloc, line, clock_write(channel, false))?)?;
+    steps.push(clock_step(alloc, line, clock_wait(alloc, half))?)?;
     let turn = Boxed::new(alloc, BoundStat::Block(steps))?;
-    let test = BoundExpr::Constant(Value::Bool(true));
+    let test = Boxed::new(alloc, BoundExpr::Constant(Value::Bool(true)))?;
     let mut body = Items::new(alloc);
     body.push(BoundStat::Do(line, turn, test))?;
     Ok(body)

@@ -108,7 +108,7 @@ fn names_become_numbers(rt: HostRuntime) -> Result<(), Fail> {
 fn of_line(statement: Option<&BoundStat>, line: u32) -> Option<&BoundSimple> {
     let statement = statement?;
     match statement {
-        BoundStat::Simple(lined) if lined.line == line => Some(&lined.simple),
+        BoundStat::Simple(lined) if lined.get().line == line => Some(&lined.get().simple),
         _ => None,
     }
 }
@@ -183,7 +183,7 @@ fn is_loop(statement: Option<&BoundStat>) -> bool {
     };
     match statement {
         BoundStat::While(line, test, body) => {
-            *line == 4 && is_edge(test) && waits(of_line(Some(body.get()), 5))
+            *line == 4 && is_edge(test.get()) && waits(of_line(Some(body.get()), 5))
         }
         _ => false,
     }

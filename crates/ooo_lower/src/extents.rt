@@ -160,14 +160,14 @@ pub(crate) fn of_lineds(
 pub(crate) fn of_lead(
     scene: Scene<'_>,
     depth: usize,
-    after: &Option<LinedSimple>,
+    after: &Option<Boxed<LinedSimple>>,
 ) -> Result<Extent, AllocError>
     ensures { IfOk result (λ e. IsLead e (after_shape (home_at scene.entry)
         (callees_within depth (home_at scene.entry)) after.now)) }
 {
     match after {
         None => Ok(plain(0)),
-        Some(x) => then(plain(1), of_lined(scene, depth, x)?),
+        Some(x) => then(plain(1), of_lined(scene, depth, x.get())?),
     }
 }
 
@@ -201,7 +201,7 @@ pub(crate) fn of_stat(
 {
     match stat {
         BoundStat::Block(body) => of_stats(scene, depth, body.as_slice()),
-        BoundStat::Simple(x) => of_lined(scene, depth, x),
+        BoundStat::Simple(x) => of_lined(scene, depth, x.get()),
         BoundStat::If(_, _, yes, no) => {
             let yes = of_stat(scene, depth, yes.get())?;
             let both = then(yes, of_else(scene, depth, no)?)?;

@@ -16,7 +16,7 @@ use ooo_bound::{BoundExpr, BoundItem, BoundTarget, BoundWait};
 use ooo_code::{NodeExpr, NodeKind, NodeWait};
 use ooo_shapes::Around;
 use ooo_value::{BoundEvent, Kind, Value};
-use sqlite_items::Items;
+use sqlite_items::{Boxed, Items};
 use std::alloc::{AllocError, Global};
 
 // The place of a kind among the five.
@@ -261,14 +261,14 @@ pub(crate) fn item_kind(alloc: Global, t: Around, item: &BoundItem) -> Result<No
 pub(crate) fn return_kind(
     alloc: Global,
     t: Around,
-    value: &Option<BoundExpr>,
+    value: &Option<Boxed<BoundExpr>>,
 ) -> Result<NodeKind, AllocError>
     ensures { IfOk result (λ k. k ≡ return_kind t value.now) }
 {
     match value {
         None => Ok(NodeKind::Goto),
         Some(e) => {
-            let value = lowered(alloc, t, e)?;
+            let value = lowered(alloc, t, e.get())?;
             match t.result {
                 None => Ok(NodeKind::Test(value, t.return_to)),
                 Some(kind) => {

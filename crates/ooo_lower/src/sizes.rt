@@ -86,13 +86,13 @@ fn weigh_simples(w: &mut Weight, simples: &[LinedSimple]) -> Result<(), AllocErr
 }
 
 // What a `for` does after each turn.
-fn weigh_after(w: &mut Weight, after: &Option<LinedSimple>) -> Result<(), AllocError>
+fn weigh_after(w: &mut Weight, after: &Option<Boxed<LinedSimple>>) -> Result<(), AllocError>
     ensures { OnOk result (Weighs (λ sizes. after_size sizes after.now) w.old w.new) }
 {
     match after {
         None => Ok(()),
         Some(after) => {
-            weigh_simple(w, &after.simple)?;
+            weigh_simple(w, &after.get().simple)?;
             Ok(())
         }
     }
@@ -124,7 +124,7 @@ fn weigh_stat(w: &mut Weight, stat: &BoundStat) -> Result<(), AllocError>
             Ok(())
         }
         BoundStat::Simple(part) => {
-            weigh_simple(w, &part.simple)?;
+            weigh_simple(w, &part.get().simple)?;
             Ok(())
         }
         BoundStat::If(_, _, yes, no) => {

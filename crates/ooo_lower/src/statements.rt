@@ -279,7 +279,7 @@ fn emit_lead(
     code: &mut Code,
     depth: usize,
     spot: Spot,
-    after: &Option<LinedSimple>,
+    after: &Option<Boxed<LinedSimple>>,
 ) -> Result<(), AllocError>
     ensures { OnOk result
         (EmitsLead (after_shape (home_at scene.entry) (callees_within depth (home_at scene.entry))
@@ -288,6 +288,7 @@ fn emit_lead(
     match after {
         None => Ok(()),
         Some(x) => {
+            let x = x.get();
             let step_at = behind(code.at()?, 1)?;
             let size = of_lined(scene, depth, x)?.nodes;
             let test_at = behind(step_at, narrow(size)?)?;
@@ -310,7 +311,7 @@ fn inside(t: Around, break_to: u32, continue_to: u32) -> Around
 }
 
 // Where a turn goes on behind the body, where what stands before the test is so large.
-fn again_at(at: u32, after: &Option<LinedSimple>, lead: Extent) -> Result<u32, AllocError>
+fn again_at(at: u32, after: &Option<Boxed<LinedSimple>>, lead: Extent) -> Result<u32, AllocError>
     ensures { (callees : Callees) (home : Home) → IsLead lead (after_shape home callees after.now) →
         IfOk result (λ n. n ≡ again_at (after_shape home callees after.now) at) }
 {
@@ -334,7 +335,7 @@ fn emit_head(
     depth: usize,
     spot: Spot,
     test: &BoundExpr,
-    after: &Option<LinedSimple>,
+    after: &Option<Boxed<LinedSimple>>,
     body: &BoundStat,
 ) -> Result<u32, AllocError>
     ensures { IfOk result (λ again. EmitsHead
@@ -363,8 +364,8 @@ fn emit_for_head(
     code: &mut Code,
     depth: usize,
     spot: Spot,
-    test: &Option<BoundExpr>,
-    after: &Option<LinedSimple>,
+    test: &Option<Boxed<BoundExpr>>,
+    after: &Option<Boxed<LinedSimple>>,
     body: &BoundStat,
 ) -> Result<u32, AllocError>
     ensures { IfOk result (λ again. EmitsHead
@@ -377,7 +378,7 @@ fn emit_for_head(
             let always = BoundExpr::Constant(Value::Bool(true));
             emit_head(alloc, scene, code, depth, spot, &always, after, body)
         }
-        Some(test) => emit_head(alloc, scene, code, depth, spot, test, after, body),
+        Some(test) => emit_head(alloc, scene, code, depth, spot, test.get(), after, body),
     }
 }
 
@@ -487,7 +488,7 @@ fn emit_return(
     alloc: Global,
     code: &mut Code,
     spot: Spot,
-    value: &Option<BoundExpr>,
+    value: &Option<Boxed<BoundExpr>>,
 ) -> Result<(), AllocError>
     ensures { OnOk result
         (Puts (counted (return_kind spot.around value.now) spot.line spot.around.return_to ∷ [])
@@ -518,8 +519,12 @@ fn emit_stat(
             emit_stats(alloc, scene, code, depth, around, next, body.as_slice())?;
             Ok(())
         }
-        BoundStat::Simple(x) => emit_lined(alloc, scene, code, depth, around, next, x),
+        BoundStat::Simple(x) => {
+            let x = x.get();
+            emit_lined(alloc, scene, code, depth, around, next, x)
+        }
         BoundStat::If(line, test, yes, no) => {
+            let test = test.get();
             let spot = Spot::new(around, *line, next);
             put_branch(alloc, scene, code, depth, spot, test, yes.get(), no)?;
             emit_stat(alloc, scene, code, depth, around, next, yes.get())?;
@@ -527,6 +532,7 @@ fn emit_stat(
             Ok(())
         }
         BoundStat::While(line, test, body) => {
+            let test = test.get();
             let spot = Spot::new(around, *line, next);
             let again = emit_head(alloc, scene, code, depth, spot, test, &None, body.get())?;
             let t = inside(around, next, again);
@@ -534,6 +540,7 @@ fn emit_stat(
             Ok(())
         }
         BoundStat::Do(line, body, test) => {
+            let test = test.get();
             let start = code.at()?;
             let test_at = test_behind(scene, code, depth, body.get())?;
             let t = inside(around, next, test_at);

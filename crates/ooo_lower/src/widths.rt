@@ -144,12 +144,12 @@ fn of_exprs(es: &[BoundExpr]) -> Widths
 }
 
 // Of an expression, if there is one.
-fn of_option(e: &Option<BoundExpr>) -> Widths
+fn of_option(e: &Option<Boxed<BoundExpr>>) -> Widths
     ensures { result ≡ option_widths e.now }
 {
     match e {
         None => NOTHING,
-        Some(e) => of_expr(e),
+        Some(e) => of_expr(e.get()),
     }
 }
 
@@ -246,12 +246,12 @@ fn of_simples(simples: &[LinedSimple]) -> Widths
 }
 
 // Of what a `for` does after each turn.
-fn of_after(after: &Option<LinedSimple>) -> Widths
+fn of_after(after: &Option<Boxed<LinedSimple>>) -> Widths
     ensures { result ≡ after_widths after.now }
 {
     match after {
         None => NOTHING,
-        Some(after) => of_simple(&after.simple),
+        Some(after) => of_simple(&after.get().simple),
     }
 }
 
@@ -274,19 +274,19 @@ fn of_stat(stat: &BoundStat) -> Widths
 {
     match stat {
         BoundStat::Block(body) => of_body(body.as_slice()),
-        BoundStat::Simple(part) => of_simple(&part.simple),
+        BoundStat::Simple(part) => of_simple(&part.get().simple),
         BoundStat::If(_, test, yes, no) => {
-            let test = of_expr(test);
+            let test = of_expr(test.get());
             let yes = of_stat(yes.get());
             both(test, both(yes, of_else(no)))
         }
         BoundStat::While(_, test, body) => {
-            let test = of_expr(test);
+            let test = of_expr(test.get());
             both(test, of_stat(body.get()))
         }
         BoundStat::Do(_, body, test) => {
             let body = of_stat(body.get());
-            both(body, of_expr(test))
+            both(body, of_expr(test.get()))
         }
         BoundStat::For(_, begin, test, after, body) => {
             let begin = of_simples(begin.as_slice());

@@ -27,8 +27,8 @@ fn prints(rt: HostRuntime) -> Result<(), Fail> {
     items.push(BoundItem::Text(text))?;
     items.push(BoundItem::Time)?;
     let mut body = Items::new(alloc);
-    body.push(simple(1, BoundSimple::Print(items)))?;
-    body.push(simple(2, BoundSimple::Print(Items::new(alloc))))?;
+    body.push(simple(alloc, 1, BoundSimple::Print(items))?)?;
+    body.push(simple(alloc, 2, BoundSimple::Print(Items::new(alloc)))?)?;
     let text = told_thread(alloc, body, Items::new(alloc))?;
     assert!(rt; text.as_slice() == PRINTS.as_bytes());
     Ok(())
@@ -69,12 +69,12 @@ fn waits(rt: HostRuntime) -> Result<(), Fail> {
     let time = BoundTime::Amount(BoundExpr::Variable(0), Scale::Ns);
     let wait = on(alloc, time, &[4, 0])?;
     let mut body = Items::new(alloc);
-    body.push(simple(1, BoundSimple::Wait(wait)))?;
-    body.push(simple(2, BoundSimple::Wait(on_static(alloc))))?;
+    body.push(simple(alloc, 1, BoundSimple::Wait(wait))?)?;
+    body.push(simple(alloc, 2, BoundSimple::Wait(on_static(alloc)))?)?;
     let seven = BoundTime::Fixed(Time(7));
-    body.push(simple(3, BoundSimple::Notify(0, seven)))?;
-    body.push(simple(4, BoundSimple::Cancel(0)))?;
-    body.push(simple(5, BoundSimple::Stop))?;
+    body.push(simple(alloc, 3, BoundSimple::Notify(0, seven))?)?;
+    body.push(simple(alloc, 4, BoundSimple::Cancel(0))?)?;
+    body.push(simple(alloc, 5, BoundSimple::Stop)?)?;
     let text = told_thread(alloc, body, Items::new(alloc))?;
     assert!(rt; text.as_slice() == WAITS.as_bytes());
     Ok(())
@@ -92,8 +92,8 @@ fn triggers(rt: HostRuntime) -> Result<(), Fail> {
     let alloc = rt.alloc();
     let trigger = on(alloc, BoundTime::Fixed(Time(3)), &[5])?;
     let mut body = Items::new(alloc);
-    body.push(simple(1, BoundSimple::NextTrigger(trigger)))?;
-    body.push(simple(2, BoundSimple::NextTrigger(on_static(alloc))))?;
+    body.push(simple(alloc, 1, BoundSimple::NextTrigger(trigger))?)?;
+    body.push(simple(alloc, 2, BoundSimple::NextTrigger(on_static(alloc)))?)?;
     let method = process(alloc, ProcessKind::Method, false, body)?;
     let text = told_process(alloc, method, Items::new(alloc))?;
     assert!(rt; text.as_slice() == TRIGGERS.as_bytes());

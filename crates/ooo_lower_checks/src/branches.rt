@@ -15,6 +15,7 @@ fn one_of(
     yes: BoundStat,
     no: BoundStat,
 ) -> Result<BoundStat, AllocError> {
+    let test = Boxed::new(alloc, test)?;
     let yes = Boxed::new(alloc, yes)?;
     let no = Boxed::new(alloc, no)?;
     Ok(BoundStat::If(line, test, yes, Some(no)))
@@ -36,9 +37,9 @@ const BRANCHES: &str = "thread starts [0] from 0 to 8 [b i u l ul b i u l ul b]
 fn branches(rt: HostRuntime) -> Result<(), Fail> {
     let alloc = rt.alloc();
     let mut body = Items::new(alloc);
-    let no = pair(alloc, store(3, 2), store(4, 3))?;
-    body.push(one_of(alloc, 1, BoundExpr::Variable(0), store(2, 1), no)?)?;
-    let yes = set(6, BoundTarget::Local(Kind::Bool, 0), int(1));
+    let no = pair(alloc, store(alloc, 3, 2)?, store(alloc, 4, 3)?)?;
+    body.push(one_of(alloc, 1, BoundExpr::Variable(0), store(alloc, 2, 1)?, no)?)?;
+    let yes = set(alloc, 6, BoundTarget::Local(Kind::Bool, 0), int(1))?;
     body.push(only_if(alloc, 5, BoundExpr::Signal(1), yes)?)?;
     let (yes, no) = (nothing(alloc), nothing(alloc));
     body.push(one_of(alloc, 7, BoundExpr::Variable(0), yes, no)?)?;

@@ -1,6 +1,6 @@
 //! Calls.
 
-use crate::making::{binary, gives, int, local, only_if, set, told_thread};
+use crate::making::{binary, gives, int, local, only_if, returns, set, told_thread};
 use ooo_bound::{BoundExpr, BoundFunction, BoundRight, BoundStat, BoundTarget};
 use ooo_value::{Kind, Op};
 use sqlite_items::Items;
@@ -17,7 +17,7 @@ fn call(
 ) -> Result<BoundStat, AllocError> {
     let mut arguments = Items::new(alloc);
     arguments.push(argument)?;
-    Ok(gives(line, into, BoundRight::Call(function, arguments)))
+    gives(alloc, line, into, BoundRight::Call(function, arguments))
 }
 
 // A function.
@@ -61,7 +61,7 @@ fn a_result(rt: HostRuntime) -> Result<(), Fail> {
     arguments.push(BoundExpr::Signal(1))?;
     let right = BoundRight::Call(0, arguments);
     let mut body = Items::new(alloc);
-    body.push(gives(1, BoundTarget::Variable(0), right))?;
+    body.push(gives(alloc, 1, BoundTarget::Variable(0), right)?)?;
     let text = told_thread(alloc, body, functions)?;
     assert!(rt; text.as_slice() == RESULT.as_bytes());
     Ok(())
@@ -69,11 +69,11 @@ fn a_result(rt: HostRuntime) -> Result<(), Fail> {
 
 // Its first argument, an int, where the second is true, and else 3, as a long long.
 fn first_or_three(alloc: Global) -> Result<BoundFunction, AllocError> {
-    let first = BoundStat::Return(10, Some(local(0)));
+    let first = returns(alloc, 10, local(0))?;
     let second = BoundExpr::Local(Kind::Bool, 1);
     let mut body = Items::new(alloc);
     body.push(only_if(alloc, 10, second, first)?)?;
-    body.push(BoundStat::Return(11, Some(int(3))))?;
+    body.push(returns(alloc, 11, int(3))?)?;
     function(alloc, Some(Kind::Long), &[Kind::Int, Kind::Bool], body)
 }
 
@@ -99,11 +99,11 @@ fn a_void_function(rt: HostRuntime) -> Result<(), Fail> {
     let mut functions = Items::new(alloc);
     functions.push(unless_zero(alloc)?)?;
     let mut body = Items::new(alloc);
-    body.push(set(1, BoundTarget::Local(Kind::Int, 0), int(1)))?;
+    body.push(set(alloc, 1, BoundTarget::Local(Kind::Int, 0), int(1))?)?;
     body.push(call(alloc, 2, BoundTarget::Nothing, 0, int(-1))?)?;
     let ends = BoundStat::Return(3, None);
     body.push(only_if(alloc, 3, BoundExpr::Variable(0), ends)?)?;
-    body.push(set(4, BoundTarget::Local(Kind::Int, 0), int(2)))?;
+    body.push(set(alloc, 4, BoundTarget::Local(Kind::Int, 0), int(2))?)?;
     let text = told_thread(alloc, body, functions)?;
     assert!(rt; text.as_slice() == VOID.as_bytes());
     Ok(())
@@ -115,7 +115,7 @@ fn unless_zero(alloc: Global) -> Result<BoundFunction, AllocError> {
     let mut body = Items::new(alloc);
     body.push(only_if(alloc, 10, BoundExpr::Local(Kind::Uint, 0), returns)?)?;
     let argument = BoundExpr::Local(Kind::Uint, 0);
-    body.push(set(11, BoundTarget::Variable(0), argument))?;
+    body.push(set(alloc, 11, BoundTarget::Variable(0), argument)?)?;
     function(alloc, None, &[Kind::Uint], body)
 }
 
@@ -162,7 +162,7 @@ fn passes_on(alloc: Global) -> Result<BoundFunction, AllocError> {
     let mut body = Items::new(alloc);
     let into = BoundTarget::Local(Kind::Int, 1);
     body.push(call(alloc, 10, into, 1, local(0))?)?;
-    body.push(BoundStat::Return(11, Some(local(1))))?;
+    body.push(returns(alloc, 11, local(1))?)?;
     function(alloc, Some(Kind::Int), &[Kind::Int], body)
 }
 
@@ -170,6 +170,6 @@ fn passes_on(alloc: Global) -> Result<BoundFunction, AllocError> {
 fn one_more(alloc: Global) -> Result<BoundFunction, AllocError> {
     let sum = binary(alloc, Op::Add, local(0), int(1))?;
     let mut body = Items::new(alloc);
-    body.push(BoundStat::Return(20, Some(sum)))?;
+    body.push(returns(alloc, 20, sum)?)?;
     function(alloc, Some(Kind::Int), &[Kind::Int], body)
 }

@@ -28,9 +28,9 @@ fn blocking(rt: HostRuntime) -> Result<(), Fail> {
     let alloc = rt.alloc();
     let mut body = Items::new(alloc);
     let element = BoundTarget::Element(1, BoundExpr::Variable(0));
-    body.push(gives(1, element, BoundRight::Read(0)))?;
-    body.push(simple(2, BoundSimple::Write(0, BoundExpr::Variable(0))))?;
-    body.push(gives(3, BoundTarget::Nothing, BoundRight::Read(0)))?;
+    body.push(gives(alloc, 1, element, BoundRight::Read(0))?)?;
+    body.push(simple(alloc, 2, BoundSimple::Write(0, BoundExpr::Variable(0)))?)?;
+    body.push(gives(alloc, 3, BoundTarget::Nothing, BoundRight::Read(0))?)?;
     let text = told_thread(alloc, body, Items::new(alloc))?;
     assert!(rt; text.as_slice() == BLOCKING.as_bytes());
     Ok(())
@@ -64,11 +64,11 @@ fn nb_reads(rt: HostRuntime) -> Result<(), Fail> {
     let alloc = rt.alloc();
     let mut body = Items::new(alloc);
     let into = BoundRight::NbRead(0, BoundTarget::Local(Kind::Int, 1));
-    body.push(gives(1, BoundTarget::Local(Kind::Bool, 0), into))?;
+    body.push(gives(alloc, 1, BoundTarget::Local(Kind::Bool, 0), into)?)?;
     let into = BoundRight::NbRead(0, BoundTarget::Element(1, local(1)));
-    body.push(gives(2, BoundTarget::Variable(0), into))?;
+    body.push(gives(alloc, 2, BoundTarget::Variable(0), into)?)?;
     let into = BoundRight::NbRead(0, BoundTarget::Variable(0));
-    body.push(gives(3, BoundTarget::Nothing, into))?;
+    body.push(gives(alloc, 3, BoundTarget::Nothing, into)?)?;
     let text = told_thread(alloc, body, Items::new(alloc))?;
     assert!(rt; text.as_slice() == NB_READS.as_bytes());
     Ok(())
@@ -94,10 +94,10 @@ fn nb_writes(rt: HostRuntime) -> Result<(), Fail> {
     let alloc = rt.alloc();
     let mut body = Items::new(alloc);
     let puts = BoundRight::NbWrite(0, BoundExpr::Variable(0));
-    body.push(gives(1, BoundTarget::Signal(1), puts))?;
+    body.push(gives(alloc, 1, BoundTarget::Signal(1), puts)?)?;
     let nine = BoundExpr::Constant(Value::Int(9));
     let puts = BoundRight::NbWrite(0, nine);
-    body.push(gives(2, BoundTarget::Nothing, puts))?;
+    body.push(gives(alloc, 2, BoundTarget::Nothing, puts)?)?;
     let text = told_thread(alloc, body, Items::new(alloc))?;
     assert!(rt; text.as_slice() == NB_WRITES.as_bytes());
     Ok(())

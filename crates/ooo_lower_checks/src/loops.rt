@@ -1,6 +1,8 @@
 //! Loops.
 
-use crate::making::{binary, int, local, nothing, only_if, pair, set, simple, store, told_thread};
+use crate::making::{
+    binary, boxed, int, local, nothing, only_if, pair, set, simple, store, told_thread,
+};
 use ooo_bound::{
     BoundExpr, BoundRight, BoundSimple, BoundStat, BoundTarget, BoundTime, BoundWait, LinedSimple,
 };
@@ -27,10 +29,11 @@ const WHILES: &str = "thread starts [0] from 0 to 9 [b i u l ul b i u l ul]
 fn whiles(rt: HostRuntime) -> Result<(), Fail> {
     let alloc = rt.alloc();
     let mut body = Items::new(alloc);
-    body.push(store(1, 0))?;
+    body.push(store(alloc, 1, 0)?)?;
     body.push(searching(alloc)?)?;
     let turn = Boxed::new(alloc, nothing(alloc))?;
-    body.push(BoundStat::While(6, BoundExpr::Variable(0), turn))?;
+    let test = boxed(alloc, BoundExpr::Variable(0))?;
+    body.push(BoundStat::While(6, test, turn))?;
     let text = told_thread(alloc, body, Items::new(alloc))?;
     assert!(rt; text.as_slice() == WHILES.as_bytes());
     Ok(())
@@ -40,10 +43,10 @@ fn whiles(rt: HostRuntime) -> Result<(), Fail> {
 fn searching(alloc: Global) -> Result<BoundStat, AllocError> {
     let leaves = only_if(alloc, 3, BoundExpr::Variable(0), BoundStat::Break(3))?;
     let again = only_if(alloc, 4, BoundExpr::Signal(1), BoundStat::Continue(4))?;
-    let rest = pair(alloc, again, store(5, 4))?;
+    let rest = pair(alloc, again, store(alloc, 5, 4)?)?;
     let turn = Boxed::new(alloc, pair(alloc, leaves, rest)?)?;
     let test = binary(alloc, Op::Less, BoundExpr::Variable(0), int(9))?;
-    Ok(BoundStat::While(2, test, turn))
+    Ok(BoundStat::While(2, boxed(alloc, test)?, turn))
 }
 
 const FORS: &str = "thread starts [0] from 0 to 13 [b i u l ul b i u l ul i]
@@ -86,13 +89,14 @@ fn at_head(right: BoundRight) -> LinedSimple {
 // A loop whose step reads the local that it counts.
 fn counting(alloc: Global) -> Result<BoundStat, AllocError> {
     let again = only_if(alloc, 2, BoundExpr::Variable(0), BoundStat::Continue(2))?;
-    let rest = set(3, BoundTarget::Variable(0), local(0));
+    let rest = set(alloc, 3, BoundTarget::Variable(0), local(0))?;
     let turn = Boxed::new(alloc, pair(alloc, again, rest)?)?;
     let test = binary(alloc, Op::Less, local(0), int(3))?;
     let mut begins = Items::new(alloc);
     begins.push(at_head(BoundRight::Value(int(0))))?;
     let step = at_head(BoundRight::Read(0));
-    Ok(BoundStat::For(1, begins, Some(test), Some(step), turn))
+    let step = Boxed::new(alloc, step)?;
+    Ok(BoundStat::For(1, begins, Some(boxed(alloc, test)?), Some(step), turn))
 }
 
 const DOS: &str = "thread starts [0] from 0 to 7 [b i u l ul b i u l ul]
@@ -115,11 +119,11 @@ fn always() -> BoundExpr {
 fn dos(rt: HostRuntime) -> Result<(), Fail> {
     let alloc = rt.alloc();
     let again = only_if(alloc, 2, BoundExpr::Variable(0), BoundStat::Continue(2))?;
-    let turn = Boxed::new(alloc, pair(alloc, again, store(3, 1))?)?;
+    let turn = Boxed::new(alloc, pair(alloc, again, store(alloc, 3, 1)?)?)?;
     let mut body = Items::new(alloc);
-    body.push(BoundStat::Do(1, turn, BoundExpr::Signal(1)))?;
+    body.push(BoundStat::Do(1, turn, boxed(alloc, BoundExpr::Signal(1))?))?;
     let turn = Boxed::new(alloc, BoundStat::Break(5))?;
-    body.push(BoundStat::Do(4, turn, always()))?;
+    body.push(BoundStat::Do(4, turn, boxed(alloc, always())?))?;
     let text = told_thread(alloc, body, Items::new(alloc))?;
     assert!(rt; text.as_slice() == DOS.as_bytes());
     Ok(())
@@ -141,8 +145,8 @@ fn half(alloc: Global, up: i32) -> Result<BoundStat, AllocError> {
         events: Items::new(alloc),
         is_static: false,
     };
-    let value = set(1, BoundTarget::Signal(1), int(up));
-    pair(alloc, value, simple(1, BoundSimple::Wait(wait)))
+    let value = set(alloc, 1, BoundTarget::Signal(1), int(up))?;
+    pair(alloc, value, simple(alloc, 1, BoundSimple::Wait(wait))?)
 }
 
 // The body of a clock.
@@ -152,7 +156,7 @@ fn a_clock(rt: HostRuntime) -> Result<(), Fail> {
     let (up, down) = (half(alloc, 1)?, half(alloc, 0)?);
     let turn = Boxed::new(alloc, pair(alloc, up, down)?)?;
     let mut body = Items::new(alloc);
-    body.push(BoundStat::Do(1, turn, always()))?;
+    body.push(BoundStat::Do(1, turn, boxed(alloc, always())?))?;
     let text = told_thread(alloc, body, Items::new(alloc))?;
     assert!(rt; text.as_slice() == CLOCK.as_bytes());
     Ok(())

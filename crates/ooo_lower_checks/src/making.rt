@@ -164,23 +164,44 @@ pub(crate) fn binary(
 // ---- statements
 
 /// A statement without statements in it.
-pub(crate) fn simple(line: u32, simple: BoundSimple) -> BoundStat {
-    BoundStat::Simple(LinedSimple { line, simple })
+pub(crate) fn simple(
+    alloc: Global,
+    line: u32,
+    simple: BoundSimple,
+) -> Result<BoundStat, AllocError> {
+    let lined = Boxed::new(alloc, LinedSimple { line, simple })?;
+    Ok(BoundStat::Simple(lined))
 }
 
 /// What is right of the sign is put into the target.
-pub(crate) fn gives(line: u32, target: BoundTarget, right: BoundRight) -> BoundStat {
-    simple(line, BoundSimple::Assign(target, right))
+pub(crate) fn gives(
+    alloc: Global,
+    line: u32,
+    target: BoundTarget,
+    right: BoundRight,
+) -> Result<BoundStat, AllocError> {
+    simple(alloc, line, BoundSimple::Assign(target, right))
 }
 
 /// A value is put into the target.
-pub(crate) fn set(line: u32, target: BoundTarget, value: BoundExpr) -> BoundStat {
-    gives(line, target, BoundRight::Value(value))
+pub(crate) fn set(
+    alloc: Global,
+    line: u32,
+    target: BoundTarget,
+    value: BoundExpr,
+) -> Result<BoundStat, AllocError> {
+    gives(alloc, line, target, BoundRight::Value(value))
 }
 
 /// Variable 0 gets a constant.
-pub(crate) fn store(line: u32, n: i32) -> BoundStat {
-    set(line, BoundTarget::Variable(0), int(n))
+pub(crate) fn store(alloc: Global, line: u32, n: i32) -> Result<BoundStat, AllocError> {
+    set(alloc, line, BoundTarget::Variable(0), int(n))
+}
+
+/// A `return` of a value.
+pub(crate) fn returns(alloc: Global, line: u32, value: BoundExpr) -> Result<BoundStat, AllocError> {
+    let value = Boxed::new(alloc, value)?;
+    Ok(BoundStat::Return(line, Some(value)))
 }
 
 /// What runs only where a value isn't 0.
@@ -190,6 +211,7 @@ pub(crate) fn only_if(
     test: BoundExpr,
     yes: BoundStat,
 ) -> Result<BoundStat, AllocError> {
+    let test = Boxed::new(alloc, test)?;
     let yes = Boxed::new(alloc, yes)?;
     Ok(BoundStat::If(line, test, yes, None))
 }

@@ -20,22 +20,32 @@ fn operators(rt: HostRuntime) -> Result<(), Fail> {
     let alloc = rt.alloc();
     let mut body = Items::new(alloc);
     let kept = BoundExpr::Promote(boxed(alloc, BoundExpr::Signal(1))?);
-    body.push(set(1, BoundTarget::Variable(0), kept))?;
+    body.push(set(alloc, 1, BoundTarget::Variable(0), kept)?)?;
     let test = boxed(alloc, BoundExpr::Signal(1))?;
     let (yes, no) = (boxed(alloc, BoundExpr::Variable(0))?, boxed(alloc, int(1))?);
     let chosen = BoundExpr::Choose(Kind::Long, test, yes, no);
-    body.push(set(2, BoundTarget::Variable(0), chosen))?;
+    body.push(set(alloc, 2, BoundTarget::Variable(0), chosen)?)?;
     let (changed, rose) = (
         boxed(alloc, BoundExpr::Changed(1))?,
         boxed(alloc, BoundExpr::Edge(1, true))?,
     );
-    body.push(set(3, BoundTarget::Variable(0), BoundExpr::Both(changed, rose)))?;
+    body.push(set(
+        alloc,
+        3,
+        BoundTarget::Variable(0),
+        BoundExpr::Both(changed, rose),
+    )?)?;
     let free = boxed(alloc, BoundExpr::Free(0))?;
     let (fell, full) = (
         boxed(alloc, BoundExpr::Edge(1, false))?,
         boxed(alloc, BoundExpr::Not(free))?,
     );
-    body.push(set(4, BoundTarget::Variable(0), BoundExpr::Either(fell, full)))?;
+    body.push(set(
+        alloc,
+        4,
+        BoundTarget::Variable(0),
+        BoundExpr::Either(fell, full),
+    )?)?;
     let text = told_thread(alloc, body, Items::new(alloc))?;
     assert!(rt; text.as_slice() == OPERATORS.as_bytes());
     Ok(())

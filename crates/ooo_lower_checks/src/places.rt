@@ -1,6 +1,8 @@
 //! Where slots and processes stand.
 
-use crate::making::{gives, int, model, only_if, process, store, thread, told, told_thread};
+use crate::making::{
+    gives, int, model, only_if, process, returns, store, thread, told, told_thread,
+};
 use ooo_bound::{
     BoundExpr, BoundFunction, BoundRight, BoundSimple, BoundStat, BoundTarget, LinedSimple,
 };
@@ -12,7 +14,7 @@ use std::test::Fail;
 // A function that gives 1.
 fn one(alloc: Global) -> Result<BoundFunction, AllocError> {
     let mut body = Items::new(alloc);
-    body.push(BoundStat::Return(9, Some(int(1))))?;
+    body.push(returns(alloc, 9, int(1))?)?;
     Ok(BoundFunction {
         result: Some(Kind::Int),
         params: Items::new(alloc),
@@ -41,12 +43,13 @@ fn calls_in_a_loop(rt: HostRuntime) -> Result<(), Fail> {
     let mut functions = Items::new(alloc);
     functions.push(one(alloc)?)?;
     let call = BoundRight::Call(0, Items::new(alloc));
-    let turn = Boxed::new(alloc, gives(3, BoundTarget::Nothing, call))?;
+    let turn = Boxed::new(alloc, gives(alloc, 3, BoundTarget::Nothing, call)?)?;
     let call = BoundRight::Call(0, Items::new(alloc));
     let step = LinedSimple {
         line: 2,
         simple: BoundSimple::Assign(BoundTarget::Variable(0), call),
     };
+    let step = Boxed::new(alloc, step)?;
     let mut body = Items::new(alloc);
     body.push(BoundStat::For(1, Items::new(alloc), None, Some(step), turn))?;
     let text = told_thread(alloc, body, functions)?;
@@ -85,6 +88,6 @@ fn returning(alloc: Global) -> Result<Items<BoundStat>, AllocError> {
     let returns = BoundStat::Return(1, None);
     let mut body = Items::new(alloc);
     body.push(only_if(alloc, 1, BoundExpr::Variable(0), returns)?)?;
-    body.push(store(2, 1))?;
+    body.push(store(alloc, 2, 1)?)?;
     Ok(body)
 }

@@ -20,13 +20,13 @@ const ASSIGNMENTS: &str = "thread starts [0] from 0 to 6 [b i u l ul b i u l ul 
 fn assignments(rt: HostRuntime) -> Result<(), Fail> {
     let alloc = rt.alloc();
     let mut body = Items::new(alloc);
-    body.push(set(1, BoundTarget::Local(Kind::Int, 0), int(5)))?;
-    body.push(set(2, BoundTarget::Local(Kind::Long, 1), local(0)))?;
+    body.push(set(alloc, 1, BoundTarget::Local(Kind::Int, 0), int(5))?)?;
+    body.push(set(alloc, 2, BoundTarget::Local(Kind::Long, 1), local(0))?)?;
     let seven = BoundExpr::Constant(Value::Uint(7));
-    body.push(set(3, BoundTarget::Variable(0), seven))?;
+    body.push(set(alloc, 3, BoundTarget::Variable(0), seven)?)?;
     let more = binary(alloc, Op::Add, BoundExpr::Variable(0), int(1))?;
-    body.push(set(4, BoundTarget::Element(1, local(0)), more))?;
-    body.push(set(5, BoundTarget::Signal(1), BoundExpr::Variable(0)))?;
+    body.push(set(alloc, 4, BoundTarget::Element(1, local(0)), more)?)?;
+    body.push(set(alloc, 5, BoundTarget::Signal(1), BoundExpr::Variable(0))?)?;
     let text = told_thread(alloc, body, Items::new(alloc))?;
     assert!(rt; text.as_slice() == ASSIGNMENTS.as_bytes());
     Ok(())

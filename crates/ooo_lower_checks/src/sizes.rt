@@ -12,7 +12,7 @@ fn calls(alloc: Global, count: u32, function: u32) -> Result<Items<BoundStat>, A
     let mut body = Items::new(alloc);
     for _ in 0..count {
         let right = BoundRight::Call(function, Items::new(alloc));
-        body.push(gives(1, BoundTarget::Nothing, right))?;
+        body.push(gives(alloc, 1, BoundTarget::Nothing, right)?)?;
     }
     Ok(body)
 }
@@ -21,7 +21,7 @@ fn calls(alloc: Global, count: u32, function: u32) -> Result<Items<BoundStat>, A
 fn cancels(alloc: Global, count: u32) -> Result<Items<BoundStat>, AllocError> {
     let mut body = Items::new(alloc);
     for _ in 0..count {
-        body.push(simple(2, BoundSimple::Cancel(0)))?;
+        body.push(simple(alloc, 2, BoundSimple::Cancel(0))?)?;
     }
     Ok(body)
 }

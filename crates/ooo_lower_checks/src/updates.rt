@@ -4,10 +4,17 @@ use crate::making::{int, local, simple, told_thread};
 use ooo_bound::{BoundExpr, BoundSimple, BoundStat, BoundTarget};
 use ooo_value::{Kind, Op, Value};
 use sqlite_items::{Boxed, Items};
+use std::alloc::{AllocError, Global};
 use std::test::Fail;
 
-fn update(line: u32, target: BoundTarget, op: Op, value: BoundExpr) -> BoundStat {
-    simple(line, BoundSimple::Update(target, op, value))
+fn update(
+    alloc: Global,
+    line: u32,
+    target: BoundTarget,
+    op: Op,
+    value: BoundExpr,
+) -> Result<BoundStat, AllocError> {
+    simple(alloc, line, BoundSimple::Update(target, op, value))
 }
 
 const UPDATES: &str = "thread starts [0] from 0 to 9 [b i u l ul b i u l ul i]
@@ -28,14 +35,26 @@ fn updates(rt: HostRuntime) -> Result<(), Fail> {
     let alloc = rt.alloc();
     let mut body = Items::new(alloc);
     let element = BoundTarget::Element(1, local(0));
-    body.push(update(1, element, Op::Add, BoundExpr::Variable(0)))?;
-    body.push(update(2, BoundTarget::Local(Kind::Int, 0), Op::Subtract, int(1)))?;
+    body.push(update(alloc, 1, element, Op::Add, BoundExpr::Variable(0))?)?;
+    body.push(update(
+        alloc,
+        2,
+        BoundTarget::Local(Kind::Int, 0),
+        Op::Subtract,
+        int(1),
+    )?)?;
     let two = BoundExpr::Constant(Value::Long(2));
-    body.push(update(3, BoundTarget::Variable(0), Op::Multiply, two))?;
+    body.push(update(alloc, 3, BoundTarget::Variable(0), Op::Multiply, two)?)?;
     let zero = Boxed::new(alloc, int(0))?;
     let index = BoundExpr::Constant(Value::Uint(2));
     let first = BoundExpr::Element(1, zero);
-    body.push(update(4, BoundTarget::Element(1, index), Op::ShiftLeft, first))?;
+    body.push(update(
+        alloc,
+        4,
+        BoundTarget::Element(1, index),
+        Op::ShiftLeft,
+        first,
+    )?)?;
     let text = told_thread(alloc, body, Items::new(alloc))?;
     assert!(rt; text.as_slice() == UPDATES.as_bytes());
     Ok(())

@@ -156,18 +156,18 @@ pub(crate) fn exprs(
     Ok(all)
 }
 
-/// An expression, if there is one.
+/// An expression on the heap, if there is one.
 pub(crate) fn option(
     alloc: Global,
     numbers: Numbers<'_>,
     e: &Option<Boxed<CheckedExpr>>,
-) -> Result<Option<BoundExpr>, AllocError>
+) -> Result<Option<Boxed<BoundExpr>>, AllocError>
     ensures { IfOk result (λ tree. tree ≡ option_of (numbering_of numbers.entry) e.now) }
 {
     match e {
         None => Ok(None),
         Some(e) => {
-            let tree = expr(alloc, numbers, e.get())?;
+            let tree = boxed(alloc, numbers, e.get())?;
             Ok(Some(tree))
         }
     }

@@ -418,6 +418,24 @@ pub(crate) fn lined(
     })
 }
 
+fn boxed(alloc: Global, lined: LinedSimple) -> Result<Boxed<LinedSimple>, AllocError>
+    ensures { IfOk result (λ boxed. boxed ≡ lined) }
+{
+    Boxed::new(alloc, lined)
+}
+
+/// A simple statement with its line, on the heap.
+pub(crate) fn boxed_lined(
+    alloc: Global,
+    numbers: Numbers<'_>,
+    statement: &CheckedSimple,
+) -> Result<Boxed<LinedSimple>, AllocError>
+    ensures { IfOk result (λ lined. lined ≡ lined_of (numbering_of numbers.entry) statement.now) }
+{
+    let lined = lined(alloc, numbers, statement)?;
+    boxed(alloc, lined)
+}
+
 // The initial value of a local: 0 where none is given.
 fn initial(
     alloc: Global,
@@ -451,6 +469,21 @@ pub(crate) fn declarator(
         line,
         simple: BoundSimple::Assign(BoundTarget::Local(kind, slot), value),
     })
+}
+
+/// The same on the heap.
+pub(crate) fn boxed_declarator(
+    alloc: Global,
+    numbers: Numbers<'_>,
+    kind: Kind,
+    line: u32,
+    declared: &CheckedDeclarator,
+) -> Result<Boxed<LinedSimple>, AllocError>
+    ensures { IfOk result (λ lined. lined
+        ≡ declarator_of (numbering_of numbers.entry) kind line declared.now) }
+{
+    let lined = declarator(alloc, numbers, kind, line, declared)?;
+    boxed(alloc, lined)
 }
 
 // Declarators one after the other.

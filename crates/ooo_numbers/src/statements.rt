@@ -6,9 +6,9 @@ ghost use Rattle.ooo_numbers.specs.Names.{numbering_of};
 ghost use Rattle.ooo_numbers.specs.Simples.{declarators_of, local_of};
 ghost use Rattle.ooo_numbers.specs.Stats.{after_of, as_stats, else_of, start_of, stat_of, stats_of};
 
-use crate::exprs::{boxed, expr, option};
+use crate::exprs::{boxed, option};
 use crate::numbers::Numbers;
-use crate::simples::{declarator, lined, local};
+use crate::simples::{boxed_declarator, boxed_lined, lined, local};
 use ooo_bound::{BoundExpr, BoundStat, LinedSimple};
 use ooo_checked::{
     CheckedDeclarator, CheckedExpr, CheckedLocal, CheckedSimple, CheckedStart, CheckedStat,
@@ -31,7 +31,7 @@ fn declared(
 {
     let mut all = Items::new(alloc);
     'parts: for part in names {
-        all.push(BoundStat::Simple(declarator(alloc, numbers, kind, line, part)?))?;
+        all.push(BoundStat::Simple(boxed_declarator(alloc, numbers, kind, line, part)?))?;
     }
     Ok(all)
 }
@@ -91,13 +91,13 @@ fn after(
     alloc: Global,
     numbers: Numbers<'_>,
     statement: &Option<Boxed<CheckedSimple>>,
-) -> Result<Option<LinedSimple>, AllocError>
+) -> Result<Option<Boxed<LinedSimple>>, AllocError>
     ensures { IfOk result (λ lined. lined ≡ after_of (numbering_of numbers.entry) statement.now) }
 {
     match statement {
         None => Ok(None),
         Some(statement) => {
-            let lined = lined(alloc, numbers, statement.get())?;
+            let lined = boxed_lined(alloc, numbers, statement.get())?;
             Ok(Some(lined))
         }
     }
@@ -107,8 +107,8 @@ fn after(
 #[derive(Drop)]
 struct ForHead {
     begins: Items<LinedSimple>,
-    test: Option<BoundExpr>,
-    after: Option<LinedSimple>,
+    test: Option<Boxed<BoundExpr>>,
+    after: Option<Boxed<LinedSimple>>,
 }
 
 impl ForHead {
@@ -120,14 +120,14 @@ impl ForHead {
     }
 }
 
-// The head of a `for`, on the heap.
+// The head of a `for`.
 fn for_head(
     alloc: Global,
     numbers: Numbers<'_>,
     begins: &Option<Boxed<CheckedStart>>,
     test: &Option<Boxed<CheckedExpr>>,
     step: &Option<Boxed<CheckedSimple>>,
-) -> Result<Boxed<ForHead>, AllocError>
+) -> Result<ForHead, AllocError>
     ensures begins { IfOk result (λ head.
         head.begins ≡ start_of (numbering_of numbers.entry) begins.now) }
     ensures test { IfOk result (λ head.
@@ -136,26 +136,13 @@ fn for_head(
         head.after ≡ after_of (numbering_of numbers.entry) step.now) }
 {
     let begins = start(alloc, numbers, begins)?;
-    let test = boxed_option(alloc, numbers, test)?;
+    let test = option(alloc, numbers, test)?;
     let after = after(alloc, numbers, step)?;
-    let head = ForHead {
+    Ok(ForHead {
         begins,
-        test: test.into_inner(),
+        test,
         after,
-    };
-    Boxed::new(alloc, head)
-}
-
-// An expression, if there is one, on the heap.
-fn boxed_option(
-    alloc: Global,
-    numbers: Numbers<'_>,
-    e: &Option<Boxed<CheckedExpr>>,
-) -> Result<Boxed<Option<BoundExpr>>, AllocError>
-    ensures { IfOk result (λ tree. tree ≡ option_of (numbering_of numbers.entry) e.now) }
-{
-    let tree = option(alloc, numbers, e)?;
-    Boxed::new(alloc, tree)
+    })
 }
 
 // A statement.
@@ -179,29 +166,29 @@ fn stat(
             Ok(BoundStat::Block(body))
         }
         CheckedStat::Simple(statement) => {
-            let lined = lined(alloc, numbers, statement.get())?;
+            let lined = boxed_lined(alloc, numbers, statement.get())?;
             Ok(BoundStat::Simple(lined))
         }
         CheckedStat::If(at, test, yes, no) => {
             let test = boxed(alloc, numbers, test.get())?;
             let yes = inner(alloc, numbers, yes.get())?;
             let no = otherwise(alloc, numbers, no)?;
-            Ok(BoundStat::If(at.line, test.into_inner(), yes, no))
+            Ok(BoundStat::If(at.line, test, yes, no))
         }
         CheckedStat::While(at, test, body) => {
             let test = boxed(alloc, numbers, test.get())?;
             let body = inner(alloc, numbers, body.get())?;
-            Ok(BoundStat::While(at.line, test.into_inner(), body))
+            Ok(BoundStat::While(at.line, test, body))
         }
         CheckedStat::Do(at, body, test) => {
             let body = inner(alloc, numbers, body.get())?;
-            let test = expr(alloc, numbers, test.get())?;
+            let test = boxed(alloc, numbers, test.get())?;
             Ok(BoundStat::Do(at.line, body, test))
         }
         CheckedStat::For(at, begins, test, step, body) => {
             let head = for_head(alloc, numbers, begins, test, step)?;
             let body = inner(alloc, numbers, body.get())?;
-            Ok(head.into_inner().around(at.line, body))
+            Ok(head.around(at.line, body))
         }
         CheckedStat::Break(at) => Ok(BoundStat::Break(at.line)),
         CheckedStat::Continue(at) => Ok(BoundStat::Continue(at.line)),

@@ -22,17 +22,17 @@ emit_stat-returns-in_ok-emit_stats-in-Block t c =
 pub emit_stat-returns-in_ok-emit_else-in-If : goal.emit_stat-returns-in_ok-emit_else-in-If
 emit_stat-returns-in_ok-emit_else-in-If t c =
     let home = home_at c.args.scene in
-    if_done home (callees_within c.args.depth home) c.args.around c.in-If.line c.args.next c.args.stat.now c.in-If.yes c.get.result.now c.get-in-If.result.now c.in-If.no c.in-If.test c.new-spot.result c.args.code.now c.put_branch.new.code c.emit_stat.new.code c.emit_else.new.code c.in-If.is c.new-spot.ensures c.get.ensures c.get-in-If.ensures c.in_ok-put_branch-in-If.ensures c.in_ok-emit_stat-in-If.ensures c.in_ok-emit_else-in-If.ensures
+    if_done home (callees_within c.args.depth home) c.args.around c.in-If.line c.args.next c.args.stat.now c.in-If.yes c.get.result.now c.get-in-If.result.now c.in-If.no c.in-If.test c.new-spot.result c.args.code.now c.put_branch.new.code c.emit_stat.new.code c.emit_else.new.code c.in-If.is c.new-spot.ensures c.get.ensures c.get-in-If.ensures (rw c.get-test.ensures at c.in_ok-put_branch-in-If.ensures) c.in_ok-emit_stat-in-If.ensures c.in_ok-emit_else-in-If.ensures
 
 pub emit_stat-returns-in_ok-emit_stat-in-While : goal.emit_stat-returns-in_ok-emit_stat-in-While
 emit_stat-returns-in_ok-emit_stat-in-While t c =
     let home = home_at c.args.scene in
-    while_done home (callees_within c.args.depth home) c.args.around c.in-While.line c.args.next c.args.stat.now c.in-While.body c.get-in-While.result.now c.get-in-While-2.result.now c.in-While.test c.new-spot-in-While.result c.inside-t.result c.in_ok-again-in-While.again c.args.code.now c.emit_head.new.code c.emit_stat-in-While.new.code c.in-While.is c.new-spot-in-While.ensures c.get-in-While.ensures c.get-in-While-2.ensures c.inside-t.ensures c.in_ok-again-in-While.ensures c.in_ok-emit_stat-in-While.ensures
+    while_done home (callees_within c.args.depth home) c.args.around c.in-While.line c.args.next c.args.stat.now c.in-While.body c.get-in-While.result.now c.get-in-While-2.result.now c.in-While.test c.new-spot-in-While.result c.inside-t.result c.in_ok-again-in-While.again c.args.code.now c.emit_head.new.code c.emit_stat-in-While.new.code c.in-While.is c.new-spot-in-While.ensures c.get-in-While.ensures c.get-in-While-2.ensures c.inside-t.ensures (rw c.get-test-in-While.ensures at c.in_ok-again-in-While.ensures) c.in_ok-emit_stat-in-While.ensures
 
 pub emit_stat-returns-in_ok-put_test-in-Do : goal.emit_stat-returns-in_ok-put_test-in-Do
 emit_stat-returns-in_ok-put_test-in-Do t c =
     let home = home_at c.args.scene in
-    do_done home (callees_within c.args.depth home) c.args.around c.in-Do.line c.args.next c.args.stat.now c.in-Do.body c.get-in-Do.result.now c.get-in-Do-2.result.now c.in-Do.test c.new.result c.inside-t-in-Do.result c.in_ok-start-in-Do.start c.in_ok-test_at-in-Do.test_at c.args.code.now c.emit_stat-in-Do.new.code c.put_test.new.code c.in-Do.is c.new.ensures c.get-in-Do.ensures c.get-in-Do-2.ensures c.inside-t-in-Do.ensures c.in_ok-start-in-Do.ensures c.in_ok-test_at-in-Do.ensures c.in_ok-emit_stat-in-Do.ensures c.in_ok-put_test-in-Do.ensures
+    do_done home (callees_within c.args.depth home) c.args.around c.in-Do.line c.args.next c.args.stat.now c.in-Do.body c.get-in-Do.result.now c.get-in-Do-2.result.now c.in-Do.test c.new.result c.inside-t-in-Do.result c.in_ok-start-in-Do.start c.in_ok-test_at-in-Do.test_at c.args.code.now c.emit_stat-in-Do.new.code c.put_test.new.code c.in-Do.is c.new.ensures c.get-in-Do.ensures c.get-in-Do-2.ensures c.inside-t-in-Do.ensures c.in_ok-start-in-Do.ensures c.in_ok-test_at-in-Do.ensures c.in_ok-emit_stat-in-Do.ensures (rw c.get-test-in-Do.ensures at c.in_ok-put_test-in-Do.ensures)
 
 pub emit_stat-returns-in_ok-emit_stat-in-For : goal.emit_stat-returns-in_ok-emit_stat-in-For
 emit_stat-returns-in_ok-emit_stat-in-For t c =
