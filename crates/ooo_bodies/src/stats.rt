@@ -1,4 +1,4 @@
-ghost use Rattle.std.specs.Prelude.{◌≡◌, None, IfOk, OnOk};
+ghost use Rattle.std.specs.Prelude.{◌≡◌, [], None, IfOk, OnOk};
 ghost use Rattle.ooo_checked.specs.Exprs.{option_of, tree_of};
 ghost use Rattle.ooo_checked.specs.Scopes.{entered, left};
 ghost use Rattle.ooo_checked.specs.Stats.{declarator_of, declarators_of, do_of, else_of, for_of, head_notes};
@@ -372,6 +372,13 @@ fn block(
     Ok(all)
 }
 
+// No statement yet, with room for so many.
+fn room(alloc: Global, count: usize) -> Result<Items<CheckedStat>, AllocError>
+    ensures { IfOk result (λ all. all ≡ []) }
+{
+    Ok(Items::from_vec(Vec::with_capacity(alloc, count)?))
+}
+
 /// The statements of a body one after the other, with what their names denote; what is noted of them is kept, and the
 /// names that they declare are known behind them.
 ///
@@ -393,7 +400,7 @@ pub fn stats(
         ≡ noted notes.old (stats_of body.now context scopes.old).notes) }
     ensures outer { OnOk result (left scopes.new ≡ left scopes.old) }
 {
-    let mut all = Items::new(alloc);
+    let mut all = room(alloc, body.len())?;
     'parts: for e in body.as_slice() {
         all.push(stat(alloc, context, e, scopes, notes)?)?;
     }

@@ -6,9 +6,11 @@ ghost use Rattle.ooo_lexer.specs.declared.position.TheConstants.{MOST_BYTES};
 ghost use Rattle.ooo_elaborate.specs.Elaborated.{IsAnswerTo as IsElaboration};
 ghost use Rattle.ooo_front.specs.Layers.{HasFew, HasMany, IsAnswerTo, elaborated};
 ghost use Rattle.ooo_front.specs.Steps.{IsModelAnswer, IsTextAnswer, IsTokenAnswer, IsTreeAnswer};
+ghost use Rattle.ooo_types.specs.Told.{IsAnswerTo as IsTyping};
 
 use crate::answer::{Accepted, Refused};
 use ooo_bound::Bound;
+use ooo_checked::TypeError;
 use ooo_elaborate::elaborate;
 use ooo_lexer::{Token, lex};
 use ooo_lower::lower;
@@ -82,10 +84,17 @@ fn front_of_tokens(alloc: Global, text: &[u8], tokens: &[Token]) -> Result<Accep
 fn front_of_tree(alloc: Global, tree: Unit) -> Result<Accepted, Refused>
     ensures { IsTreeAnswer tree result }
 {
-    match check(alloc, &tree) {
+    match checked_of(alloc, tree) {
         Ok(checked) => front_of_checked(alloc, checked),
         Err(error) => Err(Refused::from(error)),
     }
+}
+
+// The tree of a text with what its names denote. The text's own tree is let go, so that it takes no memory any more.
+fn checked_of(alloc: Global, tree: Unit) -> Result<Checked, TypeError>
+    ensures { IsTyping tree result }
+{
+    check(alloc, &tree)
 }
 
 // A text whose names and types are right, through elaboration and lowering.

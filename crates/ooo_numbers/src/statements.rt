@@ -1,4 +1,4 @@
-ghost use Rattle.std.specs.Prelude.{◌≡◌, IfOk};
+ghost use Rattle.std.specs.Prelude.{◌≡◌, [], IfOk};
 ghost use Rattle.ooo_bound.specs.declared.stat.BoundStat.TheVariants as made;
 ghost use Rattle.ooo_checked.specs.declared.stat.CheckedStart.TheVariants as start;
 ghost use Rattle.ooo_numbers.specs.Exprs.{option_of};
@@ -199,6 +199,13 @@ fn stat(
     }
 }
 
+// No statement yet, with room for so many.
+fn room(alloc: Global, count: usize) -> Result<Items<BoundStat>, AllocError>
+    ensures { IfOk result (λ all. all ≡ []) }
+{
+    Ok(Items::from_vec(Vec::with_capacity(alloc, count)?))
+}
+
 /// The statements of a body, with numbers in place of names.
 ///
 /// # Errors
@@ -213,7 +220,7 @@ pub fn stats(
 ) -> Result<Items<BoundStat>, AllocError>
     ensures { IfOk result (λ all. all ≡ stats_of (numbering_of numbers.entry) body.now) }
 {
-    let mut all = Items::new(alloc);
+    let mut all = room(alloc, body.len())?;
     'parts: for part in body {
         all.push(stat(alloc, numbers, part)?)?;
     }

@@ -415,9 +415,21 @@ fn read_inner_stat<'a>(alloc: Global, tokens: &'a [Symbol<'a>], limits: Limits) 
     Err(ReadError::Syntax(tokens.len()))
 }
 
-fn with(mut list: Items<Stat>, more: Stat) -> Result<Items<Stat>, AllocError>
+// A list of one statement, which most lists of a block are: it has no spare room.
+fn alone(alloc: Global, one: Stat) -> Result<Items<Stat>, AllocError>
+    ensures { IfOk result (λ all. all ≡ one ∷ []) }
+{
+    let items = vec![in alloc; one]?;
+    Ok(Items::from_vec(items))
+}
+
+// A list with one more statement.
+fn with(alloc: Global, mut list: Items<Stat>, more: Stat) -> Result<Items<Stat>, AllocError>
     ensures { IfOk result (λ all. all ≡ list ++ more ∷ []) }
 {
+    if list.is_empty() {
+        return alone(alloc, more);
+    }
     keeping!(list; list.push(more));
     Ok(list)
 }
@@ -434,7 +446,7 @@ fn read_next_stat<'a>(
     ensures { Gives (next_stat limits list tokens.now) result }
 {
     let (more, rest) = keeping!(list; read_inner_stat(alloc, tokens, limits));
-    Ok((with(list, more)?, rest))
+    Ok((with(alloc, list, more)?, rest))
 }
 
 // No statement yet.
