@@ -324,10 +324,10 @@ pub fn stat(
                 alloc,
                 context,
                 *at,
+                body.get(),
                 begins,
                 test,
                 after,
-                body.get(),
                 scopes,
                 notes,
             )
@@ -563,10 +563,10 @@ fn for_stat(
     alloc: Global,
     context: Context,
     at: Position,
+    body: &Stat,
     begins: &Option<Boxed<ForStart>>,
     test: &Option<Boxed<Expr>>,
     after: &Option<Boxed<Simple>>,
-    body: &Stat,
     scopes: &mut Scopes,
     notes: &mut Notes,
 ) -> Result<CheckedStat, AllocError>
