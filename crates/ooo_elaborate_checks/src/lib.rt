@@ -12,4 +12,6 @@ mod numbers;
 #[cfg(test)]
 mod outcomes;
 #[cfg(test)]
+mod printed;
+#[cfg(test)]
 mod refusals;

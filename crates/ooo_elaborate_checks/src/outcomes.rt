@@ -1,7 +1,7 @@
 //! What is made of a whole text.
 
+use crate::printed::lines;
 use ooo_bound::Bound;
-use ooo_bound_printer::lines;
 use ooo_front::{Refused, front};
 use ooo_lexer::{MOST_BYTES, Position};
 use ooo_walk::Refusal;

@@ -5,3 +5,5 @@ pub mod Alike
 pub mod Kept
 pub mod Ends
 pub mod Starts
+pub mod Named
+pub mod Endings

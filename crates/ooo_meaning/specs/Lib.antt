@@ -3,3 +3,4 @@ pub mod Sequence
 pub mod Runs
 pub mod Laws
 pub mod Rows
+pub mod Endings

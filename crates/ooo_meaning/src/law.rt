@@ -9,6 +9,7 @@ ghost use Rattle.ooo_meaning.specs.World.{wait_at};
 ghost use Rattle.ooo_meaning.specs.Laws.{AreAlike, SameState, IsBetween, cycles_left};
 ghost use Rattle.ooo_meaning.specs.Runs.{sequential_run};
 ghost use Rattle.ooo_meaning.specs.Rows.{WorkedRuns};
+ghost use Rattle.ooo_meaning.specs.Endings.{EndingsAreNamed, RunsHaveHistories};
 
 /// The reports of models that are worked by hand, computed from the definitions alone.
 pub fn worked_runs()
@@ -54,4 +55,14 @@ pub fn every_design_runs()
     ensures { (design : DesignSpec) (bounds : LimitsSpec) → 0 < bounds.deltas →
         (r : Result) × (sequential_run design bounds ((bounds.stop.0 + 1) * (bounds.deltas + 1))
         ≡ Some r) }
+{}
+
+/// The sequential run of a design has a history for each of its channels.
+pub fn histories()
+    ensures { RunsHaveHistories }
+{}
+
+/// Where each process of a design has a name, the ending of its sequential run names one, if it speaks of a process.
+pub fn endings()
+    ensures { EndingsAreNamed }
 {}

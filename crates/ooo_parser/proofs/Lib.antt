@@ -6,3 +6,9 @@ pub mod Types
 pub mod Stops
 pub mod Outcomes
 pub mod Decisions
+pub mod Beginnings
+pub mod Joins
+pub mod WordKinds
+pub mod Lengths
+pub mod Places
+pub mod Values

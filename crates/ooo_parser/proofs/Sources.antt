@@ -6,8 +6,8 @@ use Rattle.std.specs.Option.{option_map, option_to_list}
 use Rattle.ooo_lexer.specs.declared.token.Token.{Token}
 use Rattle.ooo_syntax.specs.declared.symbol.Symbol.{Symbol}
 use Rattle.ooo_grammar.specs.Sets.{anywhere}
-use Rattle.ooo_symbols.specs.Classes.{is_word, is_type_word, counts}
-use Rattle.ooo_symbols.specs.Symbols.{single, is_pair, with_pair, behind, joined, one_if, numbered, symbols_of}
+use Rattle.ooo_parser.specs.Classes.{is_word, is_type_word, counts}
+use Rattle.ooo_parser.specs.Symbols.{single, is_pair, with_pair, behind, joined, one_if, numbered, symbols_of}
 use Rattle.ooo_lexer.specs.declared.position.Position.{Position}
 use Rattle.ooo_syntax.specs.declared.error.ParseBreach.{ParseBreach}
 use Rattle.ooo_syntax.specs.declared.unit.Unit.{Unit as UnitSpec}

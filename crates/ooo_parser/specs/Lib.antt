@@ -5,3 +5,6 @@ pub mod Anywhere
 pub mod Sources
 pub mod Laws
 pub mod Answers
+pub mod Classes
+pub mod Symbols
+pub mod SymbolLaws

@@ -4,7 +4,7 @@ use Rattle.std.specs.Borrow.{Bor}
 use Rattle.ooo_lexer.specs.declared.token.Token.{Token}
 use Rattle.ooo_syntax.specs.declared.symbol.Symbol.{Symbol}
 use Rattle.ooo_grammar.specs.Sets.{anywhere}
-use Rattle.ooo_symbols.specs.Symbols.{single, symbols_of}
+use Rattle.ooo_parser.specs.Symbols.{single, symbols_of}
 
 -- bytes as they are lent, at some place in memory
 abbrev pub lent : List ℕ → Bor (List ℕ)

@@ -8,8 +8,8 @@ ghost use Rattle.ooo_parser.specs.Refusals.{IsRefused, IsTreeOf};
 ghost use Rattle.ooo_parser.specs.Sources.{symbols_in};
 
 use crate::parsing::parse_symbols;
+use crate::symbols::symbols;
 use ooo_lexer::{MOST_BYTES, Token, position_of_end};
-use ooo_symbols::symbols;
 use ooo_syntax::{ParseError, Unit};
 use std::alloc::Global;
 

@@ -19,7 +19,7 @@ use Rattle.ooo_activation.specs.Runs as statements
 use Rattle.ooo_activation.specs.Sound.{IsSound}
 use Rattle.ooo_shapes.specs.Designs.{design_of, process_size, processes_from}
 use Rattle.ooo_front.specs.declared.answer.Accepted.{Accepted}
-use Rattle.ooo_endings.specs.Endings.{EndingsAreNamed, RunsHaveHistories}
+use Rattle.ooo_meaning.specs.Endings.{EndingsAreNamed, RunsHaveHistories}
 use Rattle.ooo_plain.specs.Running.{ShowsRun}
 use Rattle.ooo_sim.specs.declared.reply.Reply.{Reply}
 use Rattle.ooo_sim.specs.declared.status.Status.{Status}

@@ -1,5 +1,4 @@
-//! Tests of how a text is read: what no clause says of `ooo_lexer`, `ooo_syntax`, `ooo_symbols`, `ooo_parser` and
-//! `ooo_printer`.
+//! Tests of how a text is read: what no clause says of `ooo_lexer`, `ooo_syntax`, `ooo_parser` and `ooo_printer`.
 #![tactic(auto)]
 
 #[cfg(test)]

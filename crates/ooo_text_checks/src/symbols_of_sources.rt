@@ -1,7 +1,7 @@
 //! Sources and their symbols, by hand.
 
 use ooo_lexer::{LexError, MOST_BYTES, lex};
-use ooo_symbols::symbols;
+use ooo_parser::symbols;
 use ooo_syntax::Symbol;
 use ooo_value::Value;
 use std::alloc::{AllocError, Global};

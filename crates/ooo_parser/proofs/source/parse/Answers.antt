@@ -1,6 +1,6 @@
 use Rattle.std.proofs.Common.{◌≡◌, map, rules, subst}
 use Rattle.ooo_lexer.specs.Positions.{position_of_end}
-use Rattle.ooo_symbols.specs.Symbols.{single, symbols_of}
+use Rattle.ooo_parser.specs.Symbols.{single, symbols_of}
 use Rattle.ooo_grammar.specs.Roots.{whole_text}
 use Rattle.ooo_parser.specs.Refusals.{IsRefused}
 use Rattle.ooo_parser.proofs.Sources.{tree_of_source, refusal_of_source}

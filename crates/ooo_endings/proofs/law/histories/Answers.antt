@@ -1,5 +1,0 @@
-use Rattle.ooo_endings.proofs.Endings.{runs_have_histories}
-use Rattle.ooo_endings.proofs.law.histories.Goals as goal
-
-pub returns : goal.returns
-returns c = runs_have_histories
