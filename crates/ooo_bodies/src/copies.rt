@@ -7,19 +7,12 @@ use ooo_syntax::{Text, TypeForm, Word};
 use ooo_value::{Kind, Name};
 use std::alloc::{AllocError, Global};
 
-/// The same name with the same bytes.
-pub fn copy_name(alloc: Global, name: &Name) -> Result<Name, AllocError>
-    ensures { IfOk result (λ copy. copy ≡ name.now) }
-{
-    Ok(Name::from_bytes(Vec::from_slice(alloc, name.as_bytes())?))
-}
-
 /// The same word.
 pub fn copy_word(alloc: Global, word: &Word) -> Result<Word, AllocError>
     ensures { IfOk result (λ copy. copy ≡ word.now) }
 {
     Ok(Word {
-        name: copy_name(alloc, &word.name)?,
+        name: word.name.copy(alloc)?,
         position: word.position,
     })
 }
@@ -29,7 +22,7 @@ pub fn copy_text(alloc: Global, text: &Text) -> Result<Text, AllocError>
     ensures { IfOk result (λ copy. copy ≡ text.now) }
 {
     Ok(Text {
-        value: copy_name(alloc, &text.value)?,
+        value: text.value.copy(alloc)?,
         position: text.position,
     })
 }

@@ -5,7 +5,6 @@ ghost use Rattle.ooo_elaborate.specs.Bindings.{is_signal, linked, linked_found, 
 ghost use Rattle.ooo_elaborate.specs.Bindings.{channel_meant, is_unbound, links_of, refusal_of, same_kind};
 ghost use Rattle.ooo_elaborate.specs.Bindings.{port_meant, unbound, unbound_from};
 
-use crate::copies::copy;
 use ooo_checked::{Direction, Thing};
 use ooo_constants::Meaning;
 use ooo_lexer::Position;
@@ -142,7 +141,7 @@ pub(crate) fn refusal(
     ensures { IfOk result (λ refusal. refusal ≡ refusal_of what at name.now) }
 {
     let mut names = Items::new(alloc);
-    names.push(copy(alloc, name)?)?;
+    names.push(name.copy(alloc)?)?;
     Ok(Some(Refusal { what, at, names }))
 }
 

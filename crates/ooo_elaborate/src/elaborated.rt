@@ -8,7 +8,6 @@ ghost use Rattle.ooo_elaborate.specs.Elaborated.{process_members, process_names,
 ghost use Rattle.ooo_elaborate.specs.Elaborated.{unless_linked, unless_walked};
 
 use crate::bindings::{Links, link_all, unbound};
-use crate::copies::{copy, narrow};
 use crate::ends::hold_body;
 use crate::functions::{Numbered, number_all};
 use crate::holders::{Held, hold_functions, holders_refusal};
@@ -16,7 +15,7 @@ use crate::processes::{Model, all_functions, all_processes, members_in, view_in}
 use ooo_bound::{Bound, BoundProcess};
 use ooo_checked::CheckedUnit;
 use ooo_constants::Meaning;
-use ooo_value::{BoundChannel, Name, Names};
+use ooo_value::{BoundChannel, Name, Names, narrow};
 use ooo_walk::{
     ElabError, Modules, ProcessForm, Refusal, Walk, WalkedChannel, WalkedInstance, WalkedProcess,
     calls, plans, reached, walk,
@@ -55,7 +54,7 @@ fn channel_names(alloc: Global, channels: &[WalkedChannel]) -> Result<Items<Name
 {
     let mut all = Items::new(alloc);
     'parts: for e in channels {
-        all.push(copy(alloc, &e.name)?)?;
+        all.push(e.name.copy(alloc)?)?;
     }
     Ok(all)
 }
@@ -66,7 +65,7 @@ fn process_names(alloc: Global, processes: &[WalkedProcess]) -> Result<Items<Nam
 {
     let mut all = Items::new(alloc);
     'parts: for e in processes {
-        all.push(copy(alloc, &e.name)?)?;
+        all.push(e.name.copy(alloc)?)?;
     }
     Ok(all)
 }
@@ -233,7 +232,7 @@ fn copied_names(alloc: Global, names: &[Name]) -> Result<Items<Name>, AllocError
 {
     let mut all = Items::new(alloc);
     'parts: for e in names {
-        all.push(copy(alloc, e)?)?;
+        all.push(e.copy(alloc)?)?;
     }
     Ok(all)
 }

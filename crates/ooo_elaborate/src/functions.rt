@@ -3,9 +3,9 @@ ghost use Rattle.ooo_elaborate.specs.Functions.{functions_in, meanings_with, num
 ghost use Rattle.ooo_elaborate.specs.Functions.{numbered_with, of_instance, setup_calls, setups_calls};
 ghost use Rattle.ooo_walk.specs.Plans.{filed, viewed};
 
-use crate::copies::narrow;
 use ooo_checked::CheckedSetup;
 use ooo_constants::Meaning;
+use ooo_value::narrow;
 use ooo_walk::{Modules, View, WalkedInstance, calls, reached};
 use sqlite_items::Items;
 use std::alloc::{AllocError, Global};

@@ -4,7 +4,6 @@ ghost use Rattle.ooo_elaborate.specs.Holders.{channel_refusal, functions_hold, h
 ghost use Rattle.ooo_elaborate.specs.Holders.{meant_holds, name_in, refusal_at, refusal_by};
 ghost use Rattle.ooo_elaborate.specs.Holding.{holds, with_holder};
 
-use crate::copies::copy;
 use crate::ends::hold_body;
 use ooo_bound::BoundFunction;
 use ooo_constants::Meaning;
@@ -123,7 +122,7 @@ fn name_of(alloc: Global, processes: &[WalkedProcess], process: u32) -> Result<N
     ensures { IfOk result (λ name. name ≡ name_in (slice_get processes.now process)) }
 {
     match at(processes, process as usize) {
-        Some(process) => copy(alloc, &process.name),
+        Some(process) => process.name.copy(alloc),
         None => Ok(Name::from_bytes(Vec::new(alloc))),
     }
 }
@@ -142,7 +141,7 @@ fn refusal_by(
         return Ok(None);
     };
     let mut names = Items::new(alloc);
-    names.push(copy(alloc, &channel.name)?)?;
+    names.push(channel.name.copy(alloc)?)?;
     names.push(name_of(alloc, processes, first)?)?;
     names.push(name_of(alloc, processes, second)?)?;
     Ok(Some(Refusal {

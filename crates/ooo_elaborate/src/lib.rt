@@ -6,7 +6,6 @@
 #![tactic(auto)]
 
 mod bindings;
-mod copies;
 mod elaborated;
 mod ends;
 mod functions;

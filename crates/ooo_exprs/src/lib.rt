@@ -20,3 +20,4 @@ mod own;
 mod signs;
 
 pub use own::{read_boxed_inner_value, read_boxed_value, read_inner_value, read_sum, read_value};
+pub use signs::begins_with_expression;

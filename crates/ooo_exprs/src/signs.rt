@@ -79,8 +79,8 @@ pub(crate) fn op_of_level(level: usize, token: Symbol<'_>) -> Option<BinaryOp>
     }
 }
 
-// Whether an expression begins here.
-pub(crate) fn begins_with_expression<'a>(tokens: &'a [Symbol<'a>]) -> bool
+/// Whether an expression begins here.
+pub fn begins_with_expression<'a>(tokens: &'a [Symbol<'a>]) -> bool
     ensures { result ≡ begins_with (in_set begins_expr) tokens.now }
 {
     match next(tokens) {

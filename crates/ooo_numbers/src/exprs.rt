@@ -5,7 +5,7 @@ ghost use Rattle.ooo_numbers.specs.Exprs.{amount_of, expr_of, exprs_of, method_o
 ghost use Rattle.ooo_numbers.specs.Exprs.{option_of, prefixed, time_in, time_of, wait_of};
 ghost use Rattle.ooo_numbers.specs.Names.{events_of, known_in, numbering_of};
 
-use crate::names::{channel_of, events, narrow, variable_of};
+use crate::names::{channel_of, events, variable_of};
 use crate::numbers::Numbers;
 use ooo_bound::{BoundExpr, BoundTime, BoundWait};
 use ooo_checked::{
@@ -14,7 +14,7 @@ use ooo_checked::{
 use ooo_constants::{Known, constant_at, is_fixed, kind_written, operator};
 use ooo_syntax::{BinaryOp, PrefixOp};
 use ooo_time::{Scale, Time};
-use ooo_value::{Kind, Value};
+use ooo_value::{Kind, Value, narrow};
 use sqlite_items::{Boxed, Items};
 use std::alloc::{AllocError, Global};
 

@@ -5,22 +5,9 @@ ghost use Rattle.ooo_numbers.specs.Names.{number_in, numbering_of, own_event_of,
 use crate::numbers::Numbers;
 use ooo_checked::{CheckedEvent, Denotation, EventForm};
 use ooo_constants::Meaning;
+use ooo_value::narrow;
 use sqlite_items::Items;
 use std::alloc::AllocError;
-
-/// A number in 32 bits.
-///
-/// # Errors
-///
-/// Out of memory above `2^32 - 1`: no source of a MiB declares so many parameters, locals or events.
-pub(crate) fn narrow(n: usize) -> Result<u32, AllocError>
-    ensures { IfOk result (λ m. m ≡ n) }
-{
-    match u32::try_from(n) {
-        Ok(m) => Ok(m),
-        Err(_) => Err(AllocError),
-    }
-}
 
 // The channel that a port is bound to, if it is.
 fn port_channel(ports: &[Option<u32>], port: u32) -> u32

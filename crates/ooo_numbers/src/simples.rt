@@ -7,7 +7,7 @@ ghost use Rattle.ooo_numbers.specs.Simples.{member_right, name_target, one, oper
 ghost use Rattle.ooo_numbers.specs.Simples.{target_of, write_of};
 
 use crate::exprs::{called, expr, exprs, nothing, time, wait};
-use crate::names::{channel_of, function_of, narrow, own_event_of, variable_of};
+use crate::names::{channel_of, function_of, own_event_of, variable_of};
 use crate::numbers::Numbers;
 use ooo_bound::{BoundExpr, BoundItem, BoundRight, BoundSimple, BoundTarget, LinedSimple};
 use ooo_checked::{
@@ -16,7 +16,7 @@ use ooo_checked::{
 };
 use ooo_constants::kind_written;
 use ooo_syntax::{AssignOp, StepOp};
-use ooo_value::{Kind, Name, Op, Value};
+use ooo_value::{Kind, Name, Op, Value, narrow};
 use sqlite_items::{Boxed, Items};
 use std::alloc::{AllocError, Global};
 

@@ -22,7 +22,7 @@ use Rattle.ooo_tables.specs.Text.{tables_text}
 use Rattle.ooo_code.specs.declared.design.Design.{Design}
 use Rattle.ooo_plain.specs.Cycles.{AreInRange as AreRunLimits}
 use Rattle.ooo_sim.specs.declared.reply.Reply.{Reply}
-use Rattle.ooo_sim.specs.declared.reply.TheConstants.{MOST_BYTES}
+use Rattle.ooo_lexer.specs.declared.position.TheConstants.{MOST_BYTES}
 use Rattle.ooo_sim.specs.declared.request.Asked.{Asked}
 use Rattle.ooo_sim.specs.declared.request.Request.{Request}
 use Rattle.ooo_sim.specs.declared.request.Request.TheVariants as request

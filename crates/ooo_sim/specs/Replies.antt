@@ -19,7 +19,7 @@ use Rattle.ooo_front.specs.Layers.{IsFrontOf}
 use Rattle.ooo_words.specs.Refused.{refusal_line as words_line}
 use Rattle.ooo_words.specs.declared.refused.WordsError.{WordsError}
 use Rattle.ooo_sim.specs.declared.reply.Reply.{Reply}
-use Rattle.ooo_sim.specs.declared.reply.TheConstants.{MOST_BYTES}
+use Rattle.ooo_lexer.specs.declared.position.TheConstants.{MOST_BYTES}
 use Rattle.ooo_sim.specs.declared.request.Asked.{Asked}
 use Rattle.ooo_sim.specs.declared.request.Request.{Request}
 use Rattle.ooo_sim.specs.declared.request.Request.TheVariants as request

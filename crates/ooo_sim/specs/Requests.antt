@@ -10,7 +10,7 @@ use Rattle.ooo_sim.specs.declared.request.Request.{Request}
 use Rattle.ooo_sim.specs.declared.request.Request.TheVariants as request
 use Rattle.ooo_sim.specs.declared.request.Wanted.{Wanted}
 use Rattle.ooo_sim.specs.declared.request.Wanted.TheVariants as wanted
-use Rattle.ooo_sim.specs.declared.reply.TheConstants.{MOST_BYTES}
+use Rattle.ooo_lexer.specs.declared.position.TheConstants.{MOST_BYTES}
 
 -- the words as their bytes
 abbrev pub words_of : {A : Type 0} → List (String A) → List (List ℕ)

@@ -10,9 +10,10 @@ ghost use Rattle.ooo_sim.specs.declared.request.Request.TheVariants as request;
 
 use crate::law::one_reply;
 use crate::pump::{ReadError, read_text, write_text};
-use crate::reply::{MOST_BYTES, Reply, reply_to};
+use crate::reply::{Reply, reply_to};
 use crate::request::{Request, Wanted, read_request};
 use crate::status::Status;
+use ooo_lexer::MOST_BYTES;
 use ooo_outside::{Failed, Gate, Sink, Source};
 use ooo_words::{WordsError, refusal};
 use std::alloc::{AllocError, Global};

@@ -15,6 +15,7 @@ mod request;
 mod status;
 
 pub use call::{alone, simulate};
-pub use reply::{MOST_BYTES, Reply};
+pub use ooo_lexer::MOST_BYTES;
+pub use reply::Reply;
 pub use request::{Asked, Request, Wanted};
 pub use status::Status;

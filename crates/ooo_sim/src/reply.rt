@@ -17,6 +17,7 @@ use ooo_bound::Bound;
 use ooo_code::Limits;
 use ooo_front::{Accepted, Refused, front};
 use ooo_history::{End, report};
+use ooo_lexer::MOST_BYTES;
 use ooo_meaning::law::{endings, histories};
 use ooo_plain::run_plain;
 use ooo_segments::segment_count;
@@ -25,9 +26,6 @@ use ooo_tables::{Tables, text};
 use ooo_time::Time;
 use sqlite_items::Items;
 use std::alloc::{AllocError, Global};
-
-/// The most bytes that a source may have.
-pub const MOST_BYTES: usize = 1_048_576;
 
 /// A status, and the text to write.
 #[derive(Debug, Drop)]

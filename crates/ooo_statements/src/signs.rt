@@ -2,7 +2,7 @@ ghost use Rattle.std.specs.Prelude.{◌≡◌, ◌∷◌, ◌++◌, []};
 ghost use Rattle.ooo_grammar.specs.Numbers.{number};
 ghost use Rattle.ooo_grammar.specs.Forms.{begins_with};
 ghost use Rattle.ooo_grammar.specs.Sets.{has, in_set, table_test};
-ghost use Rattle.ooo_grammar.specs.Names.{begins_expr, begins_simple, begins_stat, type_words};
+ghost use Rattle.ooo_grammar.specs.Names.{begins_simple, begins_stat, type_words};
 ghost use Rattle.ooo_grammar.specs.Combinators.{rows, terminals_of};
 ghost use Rattle.ooo_grammar.specs.Times.{scale_table};
 ghost use Rattle.ooo_grammar.specs.Statements.{assigns};
@@ -10,29 +10,6 @@ ghost use Rattle.ooo_grammar.specs.Statements.{assigns};
 use ooo_grammar::next;
 use ooo_syntax::{AssignOp, Symbol, Terminal};
 use ooo_time::Scale;
-
-fn begins_expression(terminal: Terminal) -> bool
-    ensures { result ≡ has begins_expr (number terminal) }
-{
-    matches!(
-        terminal,
-        Terminal::Bool
-            | Terminal::Int
-            | Terminal::Unsigned
-            | Terminal::Not
-            | Terminal::Tilde
-            | Terminal::Minus
-            | Terminal::Plus
-            | Terminal::Open
-            | Terminal::Number
-            | Terminal::True
-            | Terminal::False
-            | Terminal::Word
-            | Terminal::Notify
-            | Terminal::Cancel
-            | Terminal::Bind
-    )
-}
 
 fn begins_simple_statement(terminal: Terminal) -> bool
     ensures { result ≡ has begins_simple (number terminal) }
@@ -103,16 +80,6 @@ fn begins_statement(terminal: Terminal) -> bool
             | Terminal::ScStop
             | Terminal::Cout
     )
-}
-
-// Whether an expression begins here.
-pub(crate) fn begins_with_expression<'a>(tokens: &'a [Symbol<'a>]) -> bool
-    ensures { result ≡ begins_with (in_set begins_expr) tokens.now }
-{
-    match next(tokens) {
-        Some((token, _)) => begins_expression(token.terminal),
-        None => false,
-    }
 }
 
 // Whether a statement that ends in `;` and has no word of its own but a call's begins here.

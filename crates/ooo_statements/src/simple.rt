@@ -9,11 +9,11 @@ ghost use Rattle.ooo_statements.specs.Loops.{next_inside};
 ghost use Rattle.ooo_statements.specs.Parts.{cancel_call, member_call, next_trigger_call, notify_call, step_before, stop_call, wait_call};
 
 use crate::prints::read_print;
-use crate::signs::{assign_of, begins_with_expression};
+use crate::signs::assign_of;
 use crate::statements::followed;
 use crate::times::read_timed_inside;
 use crate::waits::read_awaiting;
-use ooo_exprs::{read_inner_value, read_value};
+use ooo_exprs::{begins_with_expression, read_inner_value, read_value};
 use ooo_grammar::{
     Limits, Read, ReadError, begins_with_word, next, one, one_inside, read_member_word, read_word,
     starts,

@@ -9,11 +9,9 @@ ghost use Rattle.ooo_statements.specs.Parts.{closed_do, closed_step, ended_start
 
 use crate::keeping::discard;
 use crate::locals::read_local;
-use crate::signs::{
-    begins_with_expression, begins_with_for_start, begins_with_simple, begins_with_statement,
-};
+use crate::signs::{begins_with_for_start, begins_with_simple, begins_with_statement};
 use crate::simple::read_simple;
-use ooo_exprs::{read_boxed_inner_value, read_boxed_value};
+use ooo_exprs::{begins_with_expression, read_boxed_inner_value, read_boxed_value};
 use ooo_grammar::{Limits, Read, ReadError, begins_with_type, one, one_inside, starts};
 use ooo_lexer::Position;
 use ooo_syntax::{Expr, ForStart, Local, Simple, Stat, Symbol, Terminal};

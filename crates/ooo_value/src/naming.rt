@@ -46,6 +46,19 @@ impl Name {
         bytes
     }
 
+    /// The same name, as a copy of its bytes.
+    ///
+    /// # Errors
+    ///
+    /// Only where memory runs out.
+    pub fn copy(&self, alloc: Global) -> Result<Name, AllocError>
+        ensures { IfOk result (λ copy. copy ≡ self.now) }
+    {
+        Ok(Name {
+            bytes: Vec::from_slice(alloc, self.as_bytes())?,
+        })
+    }
+
     /// Lends the bytes.
     pub fn as_bytes(&self) -> &[u8]
         ensures { result.now ≡ self.now }

@@ -12,14 +12,14 @@ ghost use Rattle.ooo_walk.specs.States.{in_order, unless_refused};
 use crate::members::args_given;
 use crate::plan::{Modules, View};
 use crate::state::{Evaluated, Here, Walk, WalkedInstance};
-use crate::states::{evaluated, in_kind, narrow};
+use crate::states::{evaluated, in_kind};
 use ooo_checked::{
     CheckedArg, CheckedChannels, CheckedChildren, CheckedFields, CheckedMember, CheckedParam,
     CheckedPart, Direction, Resolved, Thing,
 };
 use ooo_constants::{Known, Meaning, kind_written};
 use ooo_syntax::{PortWord, Word};
-use ooo_value::{Kind, Name, Value};
+use ooo_value::{Kind, Name, Value, narrow};
 use sqlite_items::{Items, at};
 use std::alloc::{AllocError, Global};
 use std::mem;

@@ -11,7 +11,7 @@ use crate::plan::Modules;
 use crate::refusal::ElabBreach;
 use crate::setups::as_breach;
 use crate::state::{Evaluated, ProcessForm, Walk};
-use crate::states::{MOST_PROCESSES, copy, evaluated, in_kind, narrow, option_evaluated};
+use crate::states::{MOST_PROCESSES, evaluated, in_kind, option_evaluated};
 use ooo_checked::{
     CheckedArg, CheckedConstant, CheckedMainItem, CheckedStartForm, CheckedTime, CheckedUnitItem,
     Resolved,
@@ -19,7 +19,7 @@ use ooo_checked::{
 use ooo_constants::{Meaning, TimeBreach, kind_written, place, time};
 use ooo_lexer::Position;
 use ooo_time::Time;
-use ooo_value::{BoundChannel, ChannelKind, Kind, Name};
+use ooo_value::{BoundChannel, ChannelKind, Kind, Name, narrow};
 use std::alloc::{AllocError, Global};
 
 impl Walk {
@@ -89,7 +89,7 @@ impl Walk {
             value: Kind::Bool,
             size: 0,
         };
-        let full = copy(alloc, &word.name)?;
+        let full = word.name.copy(alloc)?;
         self.add_channel(bound, true, word.position, full)
     }
 

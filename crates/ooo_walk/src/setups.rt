@@ -13,13 +13,13 @@ use crate::plan::View;
 use crate::reach::{calls, reached};
 use crate::refusal::ElabBreach;
 use crate::state::{Evaluated, ProcessForm, Walk, WalkedBinding};
-use crate::states::{evaluated, in_kind, narrow};
+use crate::states::{evaluated, in_kind};
 use ooo_checked::{
     CheckedBinding, CheckedExpr, CheckedFunction, CheckedSetup, Denotation, Resolved, Thing,
 };
 use ooo_constants::{Known, Meaning, TimeBreach, TimeRefusal, refuse_times};
 use ooo_lexer::Position;
-use ooo_value::{BoundVariable, Fault, Name, ProcessKind, Value};
+use ooo_value::{BoundVariable, Fault, Name, ProcessKind, Value, narrow};
 use std::alloc::{AllocError, Global};
 
 // What is wrong with a constant time, as a refusal of the text.

@@ -14,7 +14,7 @@ use ooo_checked::{CheckedExpr, Thing};
 use ooo_constants::{Known, Meaning, value};
 use ooo_lexer::Position;
 use ooo_value::{
-    BoundChannel, BoundEvent, BoundVariable, ChannelKind, Fault, Kind, Name, Value, convert,
+    BoundChannel, BoundEvent, BoundVariable, ChannelKind, Fault, Kind, Name, Value, convert, narrow,
 };
 use sqlite_items::Items;
 use std::alloc::{AllocError, Global};
@@ -28,26 +28,12 @@ pub const MOST_CELLS: usize = 1_048_576;
 /// The most processes of a model.
 pub const MOST_PROCESSES: usize = 256;
 
-// A number as the model holds it. A source of a MiB makes no greater ones, so this fails only with memory long gone.
-pub(crate) fn narrow(n: usize) -> Result<u32, AllocError>
-    ensures { IfOk result (λ m. m ≡ n) }
-{
-    u32::try_from(n).map_err(|_| AllocError)
-}
-
-// The same name.
-pub(crate) fn copy(alloc: Global, name: &Name) -> Result<Name, AllocError>
-    ensures { IfOk result (λ copy. copy ≡ name.now) }
-{
-    Ok(Name::from_bytes(Vec::from_slice(alloc, name.as_bytes())?))
-}
-
 // Identifiers joined by a dot.
 fn joined(alloc: Global, path: &Name, name: &Name) -> Result<Name, AllocError>
     ensures { IfOk result (λ full. full ≡ joined path.now name.now) }
 {
     if path.as_bytes().is_empty() {
-        return copy(alloc, name);
+        return name.copy(alloc);
     }
     let mut bytes = Vec::from_slice(alloc, path.as_bytes())?;
     bytes.push(b'.')?;
@@ -142,7 +128,7 @@ impl Walk {
     {
         if self.refusal.is_none() {
             let mut names = Items::new(alloc);
-            names.push(copy(alloc, name)?)?;
+            names.push(name.copy(alloc)?)?;
             self.refusal = Some(Refusal { what, at, names });
         }
         Ok(())
@@ -283,7 +269,7 @@ impl Walk {
         ensures { OnOk result (self.new ≡ with_process form at name.now self.old) }
     {
         if self.processes.len() < MOST_PROCESSES {
-            let name = copy(alloc, name)?;
+            let name = name.copy(alloc)?;
             self.processes.push(WalkedProcess { form, name })
         } else {
             self.refuse(alloc, ElabBreach::TooManyProcesses, at, name)
