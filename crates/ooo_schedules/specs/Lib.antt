@@ -1,0 +1,12 @@
+pub mod Model
+pub mod Design
+pub mod Delays
+pub mod Slots
+pub mod Program
+pub mod Cycles
+pub mod Tables
+pub mod Worlds
+pub mod Updates
+pub mod Sequence
+pub mod Endings
+pub mod Example

@@ -1,0 +1,16 @@
+//! The laws: functions that do nothing, whose clauses are the laws.
+
+ghost use Rattle.ooo_schedules.specs.Example.{ExampleMet};
+ghost use Rattle.ooo_schedules.specs.Tables.{EverySchedule};
+
+/// Of a program whose access and edges are sound, each lawful schedule makes the activations of the sequential run alike
+/// or activations beyond all of it; a board that is over reports just the run's, and ends as the run does; what is
+/// dispatched out of order doesn't conflict; and what is allowed stays so until it is dispatched, with the same job.
+pub fn every_schedule<R>()
+    ensures { EverySchedule R }
+{}
+
+/// There is a program of which the law speaks.
+pub fn example_is_sound()
+    ensures { ExampleMet }
+{}
