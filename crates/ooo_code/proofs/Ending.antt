@@ -7,7 +7,6 @@ use Rattle.ooo_value.specs.declared.operators.Fault.{Fault}
 use Rattle.ooo_value.specs.declared.values.Value.{Value}
 use Rattle.ooo_value.specs.Values.{number_of, truth_of}
 use Rattle.ooo_code.specs.declared.activation.Frame.{Frame}
-use Rattle.ooo_code.specs.declared.activation.JobEnd.TheVariants as job
 use Rattle.ooo_code.specs.declared.node.Node.{Node}
 use Rattle.ooo_code.specs.declared.node.NodeKind.{NodeKind}
 use Rattle.ooo_code.specs.declared.node.NodeKind.TheVariants as kind

@@ -3,3 +3,4 @@ pub mod Expressing
 pub mod Frames
 pub mod Activations
 pub mod Ending
+pub mod Saying

@@ -7,3 +7,4 @@ pub mod Channels
 pub mod Segments
 pub mod Sound
 pub mod Dependence
+pub mod AsSaid

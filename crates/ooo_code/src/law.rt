@@ -5,6 +5,7 @@ ghost use Rattle.ooo_code.specs.declared.activation.Frame.{Frame as FrameSpec};
 ghost use Rattle.ooo_code.specs.declared.design.Design.{Design as DesignSpec};
 ghost use Rattle.ooo_code.specs.declared.design.Proc.{Proc as ProcSpec};
 ghost use Rattle.ooo_code.specs.Dependence.{AgreeOn, DidTheSame, TouchesOnly};
+ghost use Rattle.ooo_code.specs.AsSaid.{DoesAsSaid};
 ghost use Rattle.ooo_code.specs.OwnSteps.{SeesOwnSteps};
 ghost use Rattle.ooo_code.specs.Nodes.{by_nodes, between, pass, Doing, Next, Running};
 ghost use Rattle.ooo_code.specs.Sound.{IsRanked};
@@ -28,6 +29,15 @@ pub fn changes_what_is_touched()
         (v : View) →
         slice_get design.processes p ≡ Some process →
         TouchesOnly (Accesses design process frame.entry) v (by_nodes design statements p frame v) }
+{}
+
+/// Each effect of an activation is that of a node of its segment, and notifies after the node's constant time where there is
+/// one. Where it waits, it waits behind a wait node of its segment and on what that says, or it is that of a method.
+pub fn does_as_said()
+    ensures { (design : DesignSpec) (statements p : ℕ) (process : ProcSpec) (frame : FrameSpec)
+        (v : View) →
+        slice_get design.processes p ≡ Some process →
+        DoesAsSaid design process frame.entry (by_nodes design statements p frame v) }
 {}
 
 /// In a sound design more nodes than `between` between two that count change nothing, so an activation ends by a wait,
