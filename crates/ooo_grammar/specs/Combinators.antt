@@ -120,6 +120,10 @@ listed K c far = to or_none (optional (separated K c far))
 abbrev pub repeated : {A : Type 0} {f g : Terminals} → Code A f (always g) false → disjoint g f ≡ true → Code (List A) f (always (f ++ g)) true
 repeated {g = g} c far = many (λ xs. mapped (always g) (λ b. xs ++ b ∷ []) c (λ _. subset_self g)) far []
 
+-- {c}, where each c gives a list: these lists in a row
+abbrev pub gathered : {A : Type 0} {f g : Terminals} → Code (List A) f (always g) false → disjoint g f ≡ true → Code (List A) f (always (f ++ g)) true
+gathered {g = g} c far = many (λ xs. mapped (always g) (λ ys. xs ++ ys) c (λ _. subset_self g)) far []
+
 -- ---- binary levels, grouped from the left
 
 -- c {op d}, for the operators of one level

@@ -233,9 +233,9 @@ named_constructor = skip terminal.ScCtor (pair (in_parens (deeper word) refl) (�
 unfoldable pub name_and_params : Code (Word × List Param) names none false
 name_and_params = ended terminal.Close (deeper (pair word (λ n. to (λ ps. (n, ps)) (many (λ ps. skip terminal.Comma (to (λ p. ps ++ p ∷ []) param)) refl [])) refl)) refl
 
--- "(" "sc_module_name" word {"," param} ")" ":" init {"," init} "{" {setup} "}" [";"], after the word
+-- "(" "sc_module_name" word {"," param} ")" [":" init {"," init}] "{" {setup} "}" [";"], after the word
 unfoldable pub written_constructor : Word → Code Member (terminal.Open ∷ []) (always (terminal.Semicolon ∷ [])) false
-written_constructor w = skip terminal.Open (pair (deeper (quoted terminal.ScModuleName)) (λ _. pair name_and_params (λ np. pair inits (λ is. to (λ ss. member_form.Constructor (made.Written w np.0 np.1 is ss)) setups) refl) refl) refl)
+written_constructor w = skip terminal.Open (pair (deeper (quoted terminal.ScModuleName)) (λ _. pair name_and_params (λ np. pair (to or_none (optional inits)) (λ is. to (λ ss. member_form.Constructor (made.Written w np.0 np.1 is ss)) setups) refl) refl) refl)
 
 -- ---- members
 

@@ -118,7 +118,7 @@ abbrev pub NameAndParamsLine : Type 0
 NameAndParamsLine = shape name_and_params ≡ line (Token names ∷ rep (t terminal.Comma ∷ shape param ∷ []) ∷ t terminal.Close ∷ [])
 
 abbrev pub WrittenConstructorLine : Type 0
-WrittenConstructorLine = (w : Word) → shape (written_constructor w) ≡ line (t terminal.Open ∷ t terminal.ScModuleName ∷ shape name_and_params ∷ shape inits ∷ shape setups ∷ [])
+WrittenConstructorLine = (w : Word) → shape (written_constructor w) ≡ line (t terminal.Open ∷ t terminal.ScModuleName ∷ shape name_and_params ∷ opt (shape inits ∷ []) ∷ shape setups ∷ [])
 
 abbrev pub WordedTailLine : Type 0
 WordedTailLine = (w : Word) → shape (worded_tail w) ≡ one_of_these (shape (written_constructor w) ∷ shape parts ∷ [])

@@ -1,5 +1,5 @@
 -- `sc_main` and whole texts.
-use Rattle.std.specs.Prelude.{true, false, [], ◌∷◌, Option, refl}
+use Rattle.std.specs.Prelude.{true, false, List, [], ◌∷◌, Option, refl}
 use Rattle.ooo_syntax.specs.declared.terminal.Terminal.TheVariants as terminal
 use Rattle.ooo_syntax.specs.declared.symbol.Mark.{Mark}
 use Rattle.ooo_syntax.specs.declared.leaves.Word.{Word}
@@ -8,7 +8,8 @@ use Rattle.ooo_syntax.specs.declared.unit.Library.{Library}
 use Rattle.ooo_syntax.specs.declared.unit.Library.TheVariants as library
 use Rattle.ooo_syntax.specs.declared.unit.UnitItem.{UnitItem}
 use Rattle.ooo_syntax.specs.declared.unit.UnitItem.TheVariants as unit_form
-use Rattle.ooo_syntax.specs.declared.unit.MainChannel.{MainChannel}
+use Rattle.ooo_syntax.specs.declared.leaves.TypeName.{TypeName}
+use Rattle.ooo_syntax.specs.declared.module.ChannelWord.{ChannelWord}
 use Rattle.ooo_syntax.specs.declared.unit.MainItem.{MainItem}
 use Rattle.ooo_syntax.specs.declared.unit.MainItem.TheVariants as main_form
 use Rattle.ooo_syntax.specs.declared.unit.MainValues.{MainValues}
@@ -20,7 +21,7 @@ use Rattle.ooo_syntax.specs.declared.unit.Unit.{Unit as UnitSpec}
 use Rattle.ooo_grammar.specs.Sets.{Terminals}
 use Rattle.ooo_grammar.specs.Names.{names, begins_expr}
 use Rattle.ooo_grammar.specs.Codes.{Code, pair, choice, within, deeper}
-use Rattle.ooo_grammar.specs.Combinators.{none, always, quoted, Table, terminals_of, table, skip, skip_inside, led, ended, in_parens, in_braces, to, optional, repeated}
+use Rattle.ooo_grammar.specs.Combinators.{none, always, quoted, Table, terminals_of, table, skip, skip_inside, led, ended, in_parens, in_braces, to, optional, separated, repeated, gathered}
 use Rattle.ooo_grammar.specs.Lexis.{word, literal, text}
 use Rattle.ooo_grammar.specs.Expressions.{row}
 use Rattle.ooo_grammar.specs.Times.{timed}
@@ -39,26 +40,39 @@ main_count = skip terminal.Open (deeper (skip terminal.Int (pair (optional word)
 
 -- ---- the declarations of `sc_main`
 
--- ("sc_signal" | "sc_fifo") "<" type ">" word ["(" args ")"] ";"
-unfoldable pub main_channel : Code MainChannel (terminals_of channel_table) none false
-main_channel = pair (table channel_table) (λ c. pair of_type (λ t. pair word (λ w. to (λ xs. record { channel = c; form = t; name = w; args = xs }) (ended terminal.Semicolon (optional some_args) refl)) refl) refl) refl
+-- word ["(" args ")"], after what the channel is and its type
+unfoldable pub main_channel : ChannelWord → TypeName → Code MainItem names (always (terminal.Open ∷ [])) false
+main_channel c t = pair word (λ w. to (λ xs. main_form.Channel (record { channel = c; form = t; name = w; args = xs })) (optional some_args)) refl
 
--- "(" text "," time ")" ";"
+-- ("sc_signal" | "sc_fifo") "<" type ">" word ["(" args ")"] {"," word ["(" args ")"]} ";"
+unfoldable pub main_channels : Code (List MainItem) (terminals_of channel_table) none false
+main_channels = pair (table channel_table) (λ c. pair of_type (λ t. ended terminal.Semicolon (separated terminal.Comma (main_channel c t) refl) refl) refl) refl
+
+-- "(" text "," time ")", after the clock's word
 unfoldable pub clock_tail : Mark → Word → Code MainItem (terminal.Open ∷ []) none false
-clock_tail k w = ended terminal.Semicolon (in_parens (deeper (pair text (λ x. skip terminal.Comma (to (λ t. main_form.Clock k.position w x t) timed)) refl)) refl) refl
+clock_tail k w = in_parens (deeper (pair text (λ x. skip terminal.Comma (to (λ t. main_form.Clock k.position w x t) timed)) refl)) refl
 
--- "sc_clock" word "(" text "," time ")" ";"
-unfoldable pub clock : Code MainItem (terminal.ScClock ∷ []) none false
-clock = led terminal.ScClock (λ k. pair word (clock_tail k) refl)
+-- word "(" text "," time ")", after `sc_clock`
+unfoldable pub clock : Mark → Code MainItem names none false
+clock k = pair word (clock_tail k) refl
 
--- word "(" args ")" ";", after the first word
+-- "sc_clock" word "(" text "," time ")" {"," word "(" text "," time ")"} ";"
+unfoldable pub clocks : Code (List MainItem) (terminal.ScClock ∷ []) none false
+clocks = led terminal.ScClock (λ k. ended terminal.Semicolon (separated terminal.Comma (clock k) refl) refl)
+
+-- word "(" args ")", after the module's word
 unfoldable pub instance_of : Word → Code MainItem names none false
-instance_of m = pair word (λ w. to (λ xs. main_form.Instance m w xs) (ended terminal.Semicolon some_args refl)) refl
+instance_of m = pair word (λ w. to (λ xs. main_form.Instance m w xs) some_args) refl
 
--- decl = constant | ("sc_signal" | "sc_fifo") "<" type ">" word ["(" args ")"] ";" | "sc_clock" word "(" text "," time ")" ";" | word word "(" args ")" ";", and bind
-unfoldable pub main_item : Code MainItem (terminal.Static ∷ terminal.Const ∷ terminal.ScSignal ∷ terminal.ScFifo ∷ terminal.ScClock ∷ names) none false
-main_item = choice (to (λ c. main_form.Constant c) constant) (choice (to (λ c. main_form.Channel c) main_channel) (choice clock
-    (pair word (λ w. choice (instance_of w) (to (λ b. main_form.Bind b) (binding w)) refl) refl) refl) refl) refl
+-- word "(" args ")" {"," word "(" args ")"} ";", after the module's word
+unfoldable pub instances_of : Word → Code (List MainItem) names none false
+instances_of m = ended terminal.Semicolon (separated terminal.Comma (instance_of m) refl) refl
+
+-- decl = constant | ("sc_signal" | "sc_fifo") "<" type ">" word ["(" args ")"] {"," word ["(" args ")"]} ";"
+--     | "sc_clock" word "(" text "," time ")" {"," word "(" text "," time ")"} ";" | word word "(" args ")" {"," word "(" args ")"} ";", and bind
+unfoldable pub main_entry : Code (List MainItem) (terminal.Static ∷ terminal.Const ∷ terminal.ScSignal ∷ terminal.ScFifo ∷ terminal.ScClock ∷ names) none false
+main_entry = choice (to (λ c. main_form.Constant c ∷ []) constant) (choice main_channels (choice clocks
+    (pair word (λ w. choice (instances_of w) (to (λ b. main_form.Bind b ∷ []) (binding w)) refl) refl) refl) refl) refl
 
 -- [time] ")", after `sc_start (`
 unfoldable pub start_tail : Mark → Code StartForm (terminal.Close ∷ terminal.ScZeroTime ∷ terminal.ScTime ∷ begins_expr) none false
@@ -77,7 +91,7 @@ returned = skip terminal.Return (ended terminal.Semicolon literal refl)
 -- {decl | bind} ["sc_start" "(" [time] ")" ";"] ["return" number ";"]
 unfoldable pub main_parts : Option Word → MainValues → Code Main (terminal.Static ∷ terminal.Const ∷ terminal.ScSignal ∷ terminal.ScFifo ∷ terminal.ScClock ∷ terminal.ScStart ∷ terminal.Return ∷ names)
     (always (terminal.Static ∷ terminal.Const ∷ terminal.ScSignal ∷ terminal.ScFifo ∷ terminal.ScClock ∷ terminal.ScStart ∷ terminal.Return ∷ names)) true
-main_parts c v = within _ _ (pair (repeated main_item refl) (λ xs. pair (optional start) (λ s. to (λ r. record { count = c; values = v; items = xs; start = s; returned = r }) (optional returned)) refl) refl) refl (λ _. refl)
+main_parts c v = within _ _ (pair (gathered main_entry refl) (λ xs. pair (optional start) (λ s. to (λ r. record { count = c; values = v; items = xs; start = s; returned = r }) (optional returned)) refl) refl) refl (λ _. refl)
 
 -- mbody = "{" {decl | bind} ["sc_start" "(" [time] ")" ";"] ["return" number ";"] "}"
 unfoldable pub main_body : Option Word → MainValues → Code Main (terminal.OpenBrace ∷ []) none false

@@ -14,6 +14,10 @@ use Rattle.ooo_grammar.specs.Gives.{reads_at}
 abbrev pub one_more : {A : Type 0} {f : Terminals} {g : A → Terminals} {e : Bool} → Limits → Code A f g e → List A → Reader (List A)
 one_more l c xs = mapped_r (λ x. xs ++ x ∷ []) (reads_at l c)
 
+-- more items, as a list
+abbrev pub more_of : {A : Type 0} {f : Terminals} {g : List A → Terminals} {e : Bool} → Limits → Code (List A) f g e → List A → Reader (List A)
+more_of l c xs = mapped_r (λ ys. xs ++ ys) (reads_at l c)
+
 -- a sign and one more item
 abbrev pub next_item : {A : Type 0} {f : Terminals} {g : A → Terminals} {e : Bool} → Limits → Terminal → Code A f g e → List A → Reader (List A)
 next_item l K c xs = then_r (reads_at l (quoted K)) (λ _. one_more l c xs)

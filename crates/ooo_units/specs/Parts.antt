@@ -2,10 +2,12 @@
 use Rattle.std.specs.Prelude.{Bool, true, false, List, [], ◌∷◌, ◌++◌, Option, refl}
 use Rattle.ooo_syntax.specs.declared.terminal.Terminal.TheVariants as terminal
 use Rattle.ooo_syntax.specs.declared.symbol.Mark.{Mark}
+use Rattle.ooo_syntax.specs.declared.leaves.TypeName.{TypeName}
 use Rattle.ooo_syntax.specs.declared.leaves.Word.{Word}
 use Rattle.ooo_syntax.specs.declared.leaves.Number.{Number}
 use Rattle.ooo_syntax.specs.declared.stat.Event.{Event}
 use Rattle.ooo_syntax.specs.declared.module.Arg.{Arg}
+use Rattle.ooo_syntax.specs.declared.module.ChannelWord.{ChannelWord}
 use Rattle.ooo_syntax.specs.declared.module.Field.{Field}
 use Rattle.ooo_syntax.specs.declared.module.Part.{Part}
 use Rattle.ooo_syntax.specs.declared.module.Param.{Param}
@@ -24,11 +26,11 @@ use Rattle.ooo_syntax.specs.declared.unit.UnitItem.{UnitItem}
 use Rattle.ooo_grammar.specs.Sets.{Terminals}
 use Rattle.ooo_grammar.specs.Names.{names, type_words, after_expr}
 use Rattle.ooo_grammar.specs.Codes.{Code, pair, choice, many, within, deeper}
-use Rattle.ooo_grammar.specs.Combinators.{none, always, quoted, terminals_of, skip, skip_inside, led, ended, in_parens, in_braces, to, optional, separated, listed, or_none, repeated}
+use Rattle.ooo_grammar.specs.Combinators.{none, always, quoted, terminals_of, skip, skip_inside, led, ended, in_parens, in_braces, to, optional, separated, listed, or_none, repeated, gathered}
 use Rattle.ooo_grammar.specs.Lexis.{word, text}
 use Rattle.ooo_grammar.specs.Times.{event, timed}
 use Rattle.ooo_grammar.specs.Members.{args, begins_arg, begins_member, channel_table, channels, const_fields, constant_tail, events_listed, field, function_tail, init, inits, member, named_constructor, param, part, port_table, ports, setup, some_args, typed_member, word_in_parens, worded_tail, words}
-use Rattle.ooo_grammar.specs.Units.{main_item, returned, start, unit_item}
+use Rattle.ooo_grammar.specs.Units.{clock, instance_of, main_channel, main_entry, returned, start, unit_item}
 
 -- "(" word ")"
 abbrev pub parens_word : Code Word (terminal.Open ∷ []) none false
@@ -178,12 +180,24 @@ maybe_args = within _ _ (optional some_args) refl (λ _. refl)
 abbrev pub clock_parts : Mark → Word → Code MainItem (terminal.Text ∷ []) none false
 clock_parts k w = pair text (λ x. skip terminal.Comma (to (λ t. main_form.Clock k.position w x t) timed)) refl
 
-abbrev pub begins_main_item : Terminals
-begins_main_item = terminal.Static ∷ terminal.Const ∷ terminal.ScSignal ∷ terminal.ScFifo ∷ terminal.ScClock ∷ names
+abbrev pub begins_main_entry : Terminals
+begins_main_entry = terminal.Static ∷ terminal.Const ∷ terminal.ScSignal ∷ terminal.ScFifo ∷ terminal.ScClock ∷ names
 
 -- {decl | bind}
-abbrev pub main_items : Code (List MainItem) begins_main_item (always (begins_main_item ++ [])) true
-main_items = repeated main_item refl
+abbrev pub main_entries : Code (List MainItem) begins_main_entry (always (begins_main_entry ++ [])) true
+main_entries = gathered main_entry refl
+
+-- word ["(" args ")"] {"," word ["(" args ")"]}
+abbrev pub some_main_channels : ChannelWord → TypeName → Code (List MainItem) names (always (terminal.Comma ∷ terminal.Open ∷ [])) false
+some_main_channels c t = separated terminal.Comma (main_channel c t) refl
+
+-- word "(" text "," time ")" {"," word "(" text "," time ")"}
+abbrev pub some_clocks : Mark → Code (List MainItem) names (always (terminal.Comma ∷ [])) false
+some_clocks k = separated terminal.Comma (clock k) refl
+
+-- word "(" args ")" {"," word "(" args ")"}
+abbrev pub some_instances : Word → Code (List MainItem) names (always (terminal.Comma ∷ [])) false
+some_instances m = separated terminal.Comma (instance_of m) refl
 
 -- ["sc_start" "(" [time] ")" ";"]
 abbrev pub maybe_start : Code (Option StartForm) (terminal.ScStart ∷ []) (always (terminal.ScStart ∷ [])) true

@@ -503,7 +503,7 @@ pub(crate) fn read_written_constructor<'a>(
     let (_, rest) = one(tokens, Terminal::Open, limits)?;
     let (_, rest) = one_inside(rest, Terminal::ScModuleName, limits)?;
     let ((name, params), rest) = read_name_and_params(alloc, rest, limits)?;
-    let (inits, rest) = read_inits(alloc, rest, limits)?;
+    let (inits, rest) = read_maybe_inits(alloc, rest, limits)?;
     let (setups, rest) = read_setups(alloc, rest, limits)?;
     Ok((
         Member::Constructor(Constructor::Written(word, name, params, inits, setups)),

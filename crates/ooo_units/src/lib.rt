@@ -8,6 +8,7 @@
 
 mod arguments;
 mod constructors;
+mod main_entries;
 mod members;
 mod signs;
 mod units;

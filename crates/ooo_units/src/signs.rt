@@ -5,7 +5,7 @@ ghost use Rattle.ooo_grammar.specs.Sets.{has, in_set, table_test};
 ghost use Rattle.ooo_grammar.specs.Combinators.{rows, terminals_of};
 ghost use Rattle.ooo_grammar.specs.Members.{begins_arg, begins_member, channel_table, port_table};
 ghost use Rattle.ooo_grammar.specs.Units.{library_table};
-ghost use Rattle.ooo_units.specs.Parts.{begins_main_item, begins_setup, begins_unit_item};
+ghost use Rattle.ooo_units.specs.Parts.{begins_main_entry, begins_setup, begins_unit_item};
 
 use ooo_grammar::next;
 use ooo_syntax::{ChannelWord, Library, PortWord, Symbol, Terminal};
@@ -86,7 +86,7 @@ fn begins_a_setup(terminal: Terminal) -> bool
 }
 
 fn begins_a_main_item(terminal: Terminal) -> bool
-    ensures { result ≡ has begins_main_item (number terminal) }
+    ensures { result ≡ has begins_main_entry (number terminal) }
 {
     matches!(
         terminal,
@@ -133,8 +133,8 @@ pub(crate) fn begins_with_setup<'a>(tokens: &'a [Symbol<'a>]) -> bool
 }
 
 // Whether a declaration or a binding of `sc_main` begins here.
-pub(crate) fn begins_with_main_item<'a>(tokens: &'a [Symbol<'a>]) -> bool
-    ensures { result ≡ begins_with (in_set begins_main_item) tokens.now }
+pub(crate) fn begins_with_main_entry<'a>(tokens: &'a [Symbol<'a>]) -> bool
+    ensures { result ≡ begins_with (in_set begins_main_entry) tokens.now }
 {
     match next(tokens) {
         Some((token, _)) => begins_a_main_item(token.terminal),

@@ -2,25 +2,20 @@ ghost use Rattle.ooo_grammar.specs.Codes.{deeper};
 ghost use Rattle.ooo_grammar.specs.Combinators.{table};
 ghost use Rattle.ooo_grammar.specs.Gives.{Gives, reads_at};
 ghost use Rattle.ooo_grammar.specs.Times.{timed};
-ghost use Rattle.ooo_grammar.specs.Units.{clock, clock_tail, instance_of, library_table, main, main_body, main_channel, main_count, main_item, main_parts, main_values, returned, start, start_tail, unit, unit_item, using_form};
+ghost use Rattle.ooo_grammar.specs.Units.{library_table, main, main_body, main_count, main_parts, main_values, returned, start, start_tail, unit, unit_item, using_form};
 ghost use Rattle.ooo_units.specs.Loops.{one_more};
-ghost use Rattle.ooo_units.specs.Parts.{array_end, array_values, clock_parts, count_word, main_items, maybe_returned, maybe_start, maybe_word, pointer_values, unit_items};
+ghost use Rattle.ooo_units.specs.Parts.{array_end, array_values, count_word, maybe_returned, maybe_start, maybe_word, pointer_values, unit_items};
 
-use crate::arguments::{read_maybe_args, read_some_args};
-use crate::constructors::read_binding;
-use crate::members::{read_channel_word, read_constant, read_module_form, read_of_type};
-use crate::signs::{
-    begins_with_channel, begins_with_constant, begins_with_main_item, begins_with_unit_item,
-    library_of, none_yet,
-};
+use crate::main_entries::read_main_entries;
+use crate::members::{read_constant, read_module_form};
+use crate::signs::{begins_with_unit_item, library_of, none_yet};
 use ooo_grammar::{
-    Limits, Read, ReadError, begins_with_word, next, one, one_inside, read_literal, read_text,
-    read_word, starts,
+    Limits, Read, ReadError, begins_with_word, next, one, one_inside, read_literal, read_word,
+    starts,
 };
-use ooo_statements::{followed, read_boxed_timed, read_boxed_timed_inside};
+use ooo_statements::read_boxed_timed_inside;
 use ooo_syntax::{
-    Library, Main, MainChannel, MainItem, MainValues, Mark, Number, StartForm, Symbol, Terminal,
-    TimeForm, Unit, UnitItem, Word,
+    Library, Main, MainValues, Mark, Number, StartForm, Symbol, Terminal, Unit, UnitItem, Word,
 };
 use sqlite_items::Items;
 use std::alloc::Global;
@@ -153,129 +148,6 @@ fn read_main_count<'a>(
     read_count_word_inside(alloc, rest, limits)
 }
 
-// A channel of `sc_main`.
-#[tactic(auto, using(ooo_grammar::specs::Steps::steps), unfolding(ooo_grammar::specs::Units::main_channel))]
-fn read_main_channel<'a>(
-    alloc: Global,
-    tokens: &'a [Symbol<'a>],
-    limits: Limits,
-) -> Read<'a, MainChannel>
-    ensures { Gives (reads_at limits main_channel tokens.now) result }
-{
-    let (channel, rest) = read_channel_word(tokens, limits)?;
-    let (form, rest) = read_of_type(rest, limits)?;
-    let (name, rest) = read_word(alloc, rest, limits)?;
-    let (args, rest) = read_maybe_args(alloc, rest, limits)?;
-    let (_, rest) = one(rest, Terminal::Semicolon, limits)?;
-    Ok((
-        MainChannel {
-            channel,
-            form,
-            name,
-            args,
-        },
-        rest,
-    ))
-}
-
-// The arguments of a clock.
-#[tactic(auto, using(ooo_grammar::specs::Steps::steps))]
-fn read_clock_parts<'a>(
-    alloc: Global,
-    first: Mark,
-    word: Word,
-    tokens: &'a [Symbol<'a>],
-    limits: Limits,
-) -> Read<'a, MainItem>
-    ensures { Gives (reads_at limits (clock_parts first word) tokens.now) result }
-{
-    let (text, rest) = read_text(alloc, tokens, limits)?;
-    let (_, rest) = one(rest, Terminal::Comma, limits)?;
-    let (time, rest) = read_boxed_timed(alloc, rest, limits)?;
-    Ok((MainItem::Clock(first.position, word, text, time), rest))
-}
-
-// The same, one level deeper.
-#[tactic(auto, using(ooo_grammar::specs::Steps::deeper_gives))]
-fn read_clock_parts_inside<'a>(
-    alloc: Global,
-    first: Mark,
-    word: Word,
-    tokens: &'a [Symbol<'a>],
-    limits: Limits,
-) -> Read<'a, MainItem>
-    ensures { Gives (reads_at limits (deeper (clock_parts first word)) tokens.now) result }
-{
-    read_clock_parts(alloc, first, word, tokens, limits.inside())
-}
-
-// What follows the name of a clock.
-#[tactic(auto, using(ooo_grammar::specs::Steps::steps), unfolding(ooo_grammar::specs::Units::clock_tail))]
-fn read_clock_tail<'a>(
-    alloc: Global,
-    first: Mark,
-    word: Word,
-    tokens: &'a [Symbol<'a>],
-    limits: Limits,
-) -> Read<'a, MainItem>
-    ensures { Gives (reads_at limits (clock_tail first word) tokens.now) result }
-{
-    let (_, rest) = one(tokens, Terminal::Open, limits)?;
-    let (clock, rest) = read_clock_parts_inside(alloc, first, word, rest, limits)?;
-    let (clock, rest) = followed(clock, Terminal::Close, rest, limits)?;
-    followed(clock, Terminal::Semicolon, rest, limits)
-}
-
-// A clock.
-#[tactic(auto, using(ooo_grammar::specs::Steps::steps), unfolding(ooo_grammar::specs::Units::clock))]
-fn read_clock<'a>(alloc: Global, tokens: &'a [Symbol<'a>], limits: Limits) -> Read<'a, MainItem>
-    ensures { Gives (reads_at limits clock tokens.now) result }
-{
-    let (first, rest) = one(tokens, Terminal::ScClock, limits)?;
-    let (word, rest) = read_word(alloc, rest, limits)?;
-    read_clock_tail(alloc, first, word, rest, limits)
-}
-
-// An instance, after the module.
-#[tactic(auto, using(ooo_grammar::specs::Steps::steps), unfolding(ooo_grammar::specs::Units::instance_of))]
-fn read_instance_of<'a>(
-    alloc: Global,
-    module_name: Word,
-    tokens: &'a [Symbol<'a>],
-    limits: Limits,
-) -> Read<'a, MainItem>
-    ensures { Gives (reads_at limits (instance_of module_name) tokens.now) result }
-{
-    let (name, rest) = read_word(alloc, tokens, limits)?;
-    let (args, rest) = read_some_args(alloc, rest, limits)?;
-    let (_, rest) = one(rest, Terminal::Semicolon, limits)?;
-    Ok((MainItem::Instance(module_name, name, args), rest))
-}
-
-// A declaration or a binding of `sc_main`.
-#[tactic(auto, using(ooo_grammar::specs::Steps::steps), unfolding(ooo_grammar::specs::Units::main_item))]
-fn read_main_item<'a>(alloc: Global, tokens: &'a [Symbol<'a>], limits: Limits) -> Read<'a, MainItem>
-    ensures { Gives (reads_at limits main_item tokens.now) result }
-{
-    if begins_with_constant(tokens) {
-        let (constant, rest) = read_constant(alloc, tokens, limits)?;
-        return Ok((MainItem::Constant(constant), rest));
-    }
-    if begins_with_channel(tokens) {
-        let (channel, rest) = read_main_channel(alloc, tokens, limits)?;
-        return Ok((MainItem::Channel(channel), rest));
-    }
-    if starts(tokens, Terminal::ScClock) {
-        return read_clock(alloc, tokens, limits);
-    }
-    let (word, rest) = read_word(alloc, tokens, limits)?;
-    if begins_with_word(rest) {
-        return read_instance_of(alloc, word, rest, limits);
-    }
-    let (binding, rest) = read_binding(alloc, word, rest, limits)?;
-    Ok((MainItem::Bind(binding), rest))
-}
-
 // What follows `sc_start (`.
 #[tactic(auto, using(ooo_grammar::specs::Steps::steps), unfolding(ooo_grammar::specs::Units::start_tail))]
 fn read_start_tail<'a>(
@@ -318,42 +190,6 @@ fn read_returned<'a>(tokens: &'a [Symbol<'a>], limits: Limits) -> Read<'a, Numbe
     Ok((number, rest))
 }
 
-// One more declaration or binding.
-#[tactic(auto, using(ooo_grammar::specs::Steps::steps))]
-fn read_one_more_main_item<'a>(
-    alloc: Global,
-    mut list: Items<MainItem>,
-    tokens: &'a [Symbol<'a>],
-    limits: Limits,
-) -> Read<'a, Items<MainItem>>
-    ensures { Gives (one_more limits main_item list tokens.now) result }
-{
-    let (more, rest) = read_main_item(alloc, tokens, limits)?;
-    list.push(more)?;
-    Ok((list, rest))
-}
-
-// The declarations and bindings of `sc_main`.
-#[tactic(auto, using(ooo_grammar::specs::Steps::steps))]
-fn read_main_items<'a>(
-    alloc: Global,
-    tokens: &'a [Symbol<'a>],
-    limits: Limits,
-) -> Read<'a, Items<MainItem>>
-    ensures { Gives (reads_at limits main_items tokens.now) result }
-{
-    let (mut list, mut rest) = none_yet(alloc, tokens);
-    'turns: for _turn in 0..rest.len() {
-        if !begins_with_main_item(rest) {
-            return Ok((list, rest));
-        }
-        let (more, after) = read_one_more_main_item(alloc, list, rest, limits)?;
-        list = more;
-        rest = after;
-    }
-    Ok((list, rest))
-}
-
 // `sc_start` and its time, or nothing.
 #[tactic(auto, using(ooo_grammar::specs::Steps::steps))]
 fn read_maybe_start<'a>(
@@ -393,7 +229,7 @@ fn read_main_parts<'a>(
 ) -> Read<'a, Main>
     ensures { Gives (reads_at limits (main_parts count values) tokens.now) result }
 {
-    let (items, rest) = read_main_items(alloc, tokens, limits)?;
+    let (items, rest) = read_main_entries(alloc, tokens, limits)?;
     let (start, rest) = read_maybe_start(alloc, rest, limits)?;
     let (returned, rest) = read_maybe_returned(rest, limits)?;
     Ok((

@@ -1,0 +1,385 @@
+ghost use Rattle.std.specs.Prelude.{◌≡◌, ◌∷◌, [], IfOk};
+ghost use Rattle.ooo_grammar.specs.Codes.{deeper};
+ghost use Rattle.ooo_grammar.specs.Gives.{Gives, reads_at};
+ghost use Rattle.ooo_grammar.specs.Units.{clock, clock_tail, clocks, instance_of, instances_of, main_channel, main_channels, main_entry};
+ghost use Rattle.ooo_units.specs.Loops.{more_of, next_item};
+ghost use Rattle.ooo_units.specs.Parts.{clock_parts, main_entries, some_clocks, some_instances, some_main_channels};
+
+use crate::arguments::{read_maybe_args, read_some_args};
+use crate::constructors::read_binding;
+use crate::members::{read_channel_word, read_constant, read_of_type};
+use crate::signs::{begins_with_channel, begins_with_constant, begins_with_main_entry, none_yet};
+use ooo_grammar::{Limits, Read, begins_with_word, one, read_text, read_word, starts};
+use ooo_statements::read_boxed_timed;
+use ooo_syntax::{
+    ChannelWord, MainChannel, MainItem, Mark, Symbol, Terminal, TypeName, Word,
+};
+use ooo_value::Name;
+use sqlite_items::Items;
+use std::alloc::{AllocError, Global};
+
+// ---- channels
+
+// A channel of `sc_main`, after what it is and its type.
+#[tactic(auto, using(ooo_grammar::specs::Steps::steps), unfolding(ooo_grammar::specs::Units::main_channel))]
+fn read_main_channel<'a>(
+    alloc: Global,
+    channel: ChannelWord,
+    form: TypeName,
+    tokens: &'a [Symbol<'a>],
+    limits: Limits,
+) -> Read<'a, MainItem>
+    ensures { Gives (reads_at limits (main_channel channel form) tokens.now) result }
+{
+    let (name, rest) = read_word(alloc, tokens, limits)?;
+    let (args, rest) = read_maybe_args(alloc, rest, limits)?;
+    Ok((
+        MainItem::Channel(MainChannel {
+            channel,
+            form,
+            name,
+            args,
+        }),
+        rest,
+    ))
+}
+
+// A comma and one more channel.
+#[tactic(auto, using(ooo_grammar::specs::Steps::steps))]
+fn read_next_main_channel<'a>(
+    alloc: Global,
+    mut list: Items<MainItem>,
+    channel: ChannelWord,
+    form: TypeName,
+    tokens: &'a [Symbol<'a>],
+    limits: Limits,
+) -> Read<'a, Items<MainItem>>
+    ensures { let c = main_channel channel form in
+        Gives (next_item limits Terminal.Comma c list tokens.now) result }
+{
+    let (_, rest) = one(tokens, Terminal::Comma, limits)?;
+    let (more, rest) = read_main_channel(alloc, channel, form, rest, limits)?;
+    list.push(more)?;
+    Ok((list, rest))
+}
+
+// Channels of one type.
+#[tactic(auto, using(ooo_grammar::specs::Steps::steps))]
+fn read_some_main_channels<'a>(
+    alloc: Global,
+    channel: ChannelWord,
+    form: TypeName,
+    tokens: &'a [Symbol<'a>],
+    limits: Limits,
+) -> Read<'a, Items<MainItem>>
+    ensures { Gives (reads_at limits (some_main_channels channel form) tokens.now) result }
+{
+    let (first, mut rest) = read_main_channel(alloc, channel, form, tokens, limits)?;
+    let mut list = Items::new(alloc);
+    list.push(first)?;
+    'turns: for _turn in 0..rest.len() {
+        if !starts(rest, Terminal::Comma) {
+            return Ok((list, rest));
+        }
+        let (more, after) = read_next_main_channel(alloc, list, channel, form, rest, limits)?;
+        list = more;
+        rest = after;
+    }
+    Ok((list, rest))
+}
+
+// A declaration of channels.
+#[tactic(auto, using(ooo_grammar::specs::Steps::steps), unfolding(ooo_grammar::specs::Units::main_channels))]
+fn read_main_channels<'a>(
+    alloc: Global,
+    tokens: &'a [Symbol<'a>],
+    limits: Limits,
+) -> Read<'a, Items<MainItem>>
+    ensures { Gives (reads_at limits main_channels tokens.now) result }
+{
+    let (channel, rest) = read_channel_word(tokens, limits)?;
+    let (form, rest) = read_of_type(rest, limits)?;
+    let (list, rest) = read_some_main_channels(alloc, channel, form, rest, limits)?;
+    let (_, rest) = one(rest, Terminal::Semicolon, limits)?;
+    Ok((list, rest))
+}
+
+// ---- clocks
+
+// The arguments of a clock.
+#[tactic(auto, using(ooo_grammar::specs::Steps::steps))]
+fn read_clock_parts<'a>(
+    alloc: Global,
+    first: Mark,
+    word: Word,
+    tokens: &'a [Symbol<'a>],
+    limits: Limits,
+) -> Read<'a, MainItem>
+    ensures { Gives (reads_at limits (clock_parts first word) tokens.now) result }
+{
+    let (text, rest) = read_text(alloc, tokens, limits)?;
+    let (_, rest) = one(rest, Terminal::Comma, limits)?;
+    let (time, rest) = read_boxed_timed(alloc, rest, limits)?;
+    Ok((MainItem::Clock(first.position, word, text, time), rest))
+}
+
+// The same, one level deeper.
+#[tactic(auto, using(ooo_grammar::specs::Steps::deeper_gives))]
+fn read_clock_parts_inside<'a>(
+    alloc: Global,
+    first: Mark,
+    word: Word,
+    tokens: &'a [Symbol<'a>],
+    limits: Limits,
+) -> Read<'a, MainItem>
+    ensures { Gives (reads_at limits (deeper (clock_parts first word)) tokens.now) result }
+{
+    read_clock_parts(alloc, first, word, tokens, limits.inside())
+}
+
+// What follows the word of a clock.
+#[tactic(auto, using(ooo_grammar::specs::Steps::steps), unfolding(ooo_grammar::specs::Units::clock_tail))]
+fn read_clock_tail<'a>(
+    alloc: Global,
+    first: Mark,
+    word: Word,
+    tokens: &'a [Symbol<'a>],
+    limits: Limits,
+) -> Read<'a, MainItem>
+    ensures { Gives (reads_at limits (clock_tail first word) tokens.now) result }
+{
+    let (_, rest) = one(tokens, Terminal::Open, limits)?;
+    let (clock, rest) = read_clock_parts_inside(alloc, first, word, rest, limits)?;
+    let (_, rest) = one(rest, Terminal::Close, limits)?;
+    Ok((clock, rest))
+}
+
+// A clock, after `sc_clock`.
+#[tactic(auto, using(ooo_grammar::specs::Steps::steps), unfolding(ooo_grammar::specs::Units::clock))]
+fn read_clock<'a>(
+    alloc: Global,
+    first: Mark,
+    tokens: &'a [Symbol<'a>],
+    limits: Limits,
+) -> Read<'a, MainItem>
+    ensures { Gives (reads_at limits (clock first) tokens.now) result }
+{
+    let (word, rest) = read_word(alloc, tokens, limits)?;
+    read_clock_tail(alloc, first, word, rest, limits)
+}
+
+// A comma and one more clock.
+#[tactic(auto, using(ooo_grammar::specs::Steps::steps))]
+fn read_next_clock<'a>(
+    alloc: Global,
+    mut list: Items<MainItem>,
+    first: Mark,
+    tokens: &'a [Symbol<'a>],
+    limits: Limits,
+) -> Read<'a, Items<MainItem>>
+    ensures { Gives (next_item limits Terminal.Comma (clock first) list tokens.now) result }
+{
+    let (_, rest) = one(tokens, Terminal::Comma, limits)?;
+    let (more, rest) = read_clock(alloc, first, rest, limits)?;
+    list.push(more)?;
+    Ok((list, rest))
+}
+
+// Clocks.
+#[tactic(auto, using(ooo_grammar::specs::Steps::steps))]
+fn read_some_clocks<'a>(
+    alloc: Global,
+    first: Mark,
+    tokens: &'a [Symbol<'a>],
+    limits: Limits,
+) -> Read<'a, Items<MainItem>>
+    ensures { Gives (reads_at limits (some_clocks first) tokens.now) result }
+{
+    let (clock, mut rest) = read_clock(alloc, first, tokens, limits)?;
+    let mut list = Items::new(alloc);
+    list.push(clock)?;
+    'turns: for _turn in 0..rest.len() {
+        if !starts(rest, Terminal::Comma) {
+            return Ok((list, rest));
+        }
+        let (more, after) = read_next_clock(alloc, list, first, rest, limits)?;
+        list = more;
+        rest = after;
+    }
+    Ok((list, rest))
+}
+
+// A declaration of clocks.
+#[tactic(auto, using(ooo_grammar::specs::Steps::steps), unfolding(ooo_grammar::specs::Units::clocks))]
+fn read_clocks<'a>(
+    alloc: Global,
+    tokens: &'a [Symbol<'a>],
+    limits: Limits,
+) -> Read<'a, Items<MainItem>>
+    ensures { Gives (reads_at limits clocks tokens.now) result }
+{
+    let (first, rest) = one(tokens, Terminal::ScClock, limits)?;
+    let (list, rest) = read_some_clocks(alloc, first, rest, limits)?;
+    let (_, rest) = one(rest, Terminal::Semicolon, limits)?;
+    Ok((list, rest))
+}
+
+// ---- instances
+
+// The same word: each instance of a list has its module's.
+fn copy_of(alloc: Global, word: &Word) -> Result<Word, AllocError>
+    ensures { IfOk result (λ copy. copy ≡ word.now) }
+{
+    let name = Name::from_bytes(Vec::from_slice(alloc, word.name.as_bytes())?);
+    Ok(Word {
+        name,
+        position: word.position,
+    })
+}
+
+// An instance, after the word of its module.
+#[tactic(auto, using(ooo_grammar::specs::Steps::steps), unfolding(ooo_grammar::specs::Units::instance_of))]
+fn read_instance_of<'a>(
+    alloc: Global,
+    module_name: &Word,
+    tokens: &'a [Symbol<'a>],
+    limits: Limits,
+) -> Read<'a, MainItem>
+    ensures { Gives (reads_at limits (instance_of module_name.now) tokens.now) result }
+{
+    let (name, rest) = read_word(alloc, tokens, limits)?;
+    let (args, rest) = read_some_args(alloc, rest, limits)?;
+    let module_name = copy_of(alloc, module_name)?;
+    Ok((MainItem::Instance(module_name, name, args), rest))
+}
+
+// A comma and one more instance.
+#[tactic(auto, using(ooo_grammar::specs::Steps::steps))]
+fn read_next_instance<'a>(
+    alloc: Global,
+    mut list: Items<MainItem>,
+    module_name: &Word,
+    tokens: &'a [Symbol<'a>],
+    limits: Limits,
+) -> Read<'a, Items<MainItem>>
+    ensures { let c = instance_of module_name.now in
+        Gives (next_item limits Terminal.Comma c list tokens.now) result }
+{
+    let (_, rest) = one(tokens, Terminal::Comma, limits)?;
+    let (more, rest) = read_instance_of(alloc, module_name, rest, limits)?;
+    list.push(more)?;
+    Ok((list, rest))
+}
+
+// Instances of one module.
+#[tactic(auto, using(ooo_grammar::specs::Steps::steps))]
+fn read_some_instances<'a>(
+    alloc: Global,
+    module_name: &Word,
+    tokens: &'a [Symbol<'a>],
+    limits: Limits,
+) -> Read<'a, Items<MainItem>>
+    ensures { Gives (reads_at limits (some_instances module_name.now) tokens.now) result }
+{
+    let (first, mut rest) = read_instance_of(alloc, module_name, tokens, limits)?;
+    let mut list = Items::new(alloc);
+    list.push(first)?;
+    'turns: for _turn in 0..rest.len() {
+        if !starts(rest, Terminal::Comma) {
+            return Ok((list, rest));
+        }
+        let (more, after) = read_next_instance(alloc, list, module_name, rest, limits)?;
+        list = more;
+        rest = after;
+    }
+    Ok((list, rest))
+}
+
+// A declaration of instances, after the word of their module.
+#[tactic(auto, using(ooo_grammar::specs::Steps::steps), unfolding(ooo_grammar::specs::Units::instances_of))]
+fn read_instances_of<'a>(
+    alloc: Global,
+    module_name: &Word,
+    tokens: &'a [Symbol<'a>],
+    limits: Limits,
+) -> Read<'a, Items<MainItem>>
+    ensures { Gives (reads_at limits (instances_of module_name.now) tokens.now) result }
+{
+    let (list, rest) = read_some_instances(alloc, module_name, tokens, limits)?;
+    let (_, rest) = one(rest, Terminal::Semicolon, limits)?;
+    Ok((list, rest))
+}
+
+// ---- all of them
+
+// One declaration or binding as a list.
+fn only(alloc: Global, item: MainItem) -> Result<Items<MainItem>, AllocError>
+    ensures { IfOk result (λ list. list ≡ item ∷ []) }
+{
+    let mut list = Items::new(alloc);
+    list.push(item)?;
+    Ok(list)
+}
+
+// The declarations up to the next `;`, or a binding.
+#[tactic(auto, using(ooo_grammar::specs::Steps::steps), unfolding(ooo_grammar::specs::Units::main_entry))]
+fn read_main_entry<'a>(
+    alloc: Global,
+    tokens: &'a [Symbol<'a>],
+    limits: Limits,
+) -> Read<'a, Items<MainItem>>
+    ensures { Gives (reads_at limits main_entry tokens.now) result }
+{
+    if begins_with_constant(tokens) {
+        let (constant, rest) = read_constant(alloc, tokens, limits)?;
+        return Ok((only(alloc, MainItem::Constant(constant))?, rest));
+    }
+    if begins_with_channel(tokens) {
+        return read_main_channels(alloc, tokens, limits);
+    }
+    if starts(tokens, Terminal::ScClock) {
+        return read_clocks(alloc, tokens, limits);
+    }
+    let (word, rest) = read_word(alloc, tokens, limits)?;
+    if begins_with_word(rest) {
+        return read_instances_of(alloc, &word, rest, limits);
+    }
+    let (binding, rest) = read_binding(alloc, word, rest, limits)?;
+    Ok((only(alloc, MainItem::Bind(binding))?, rest))
+}
+
+// The declarations up to one more `;`, or one more binding.
+#[tactic(auto, using(ooo_grammar::specs::Steps::steps))]
+fn read_one_more_main_entry<'a>(
+    alloc: Global,
+    mut list: Items<MainItem>,
+    tokens: &'a [Symbol<'a>],
+    limits: Limits,
+) -> Read<'a, Items<MainItem>>
+    ensures { Gives (more_of limits main_entry list tokens.now) result }
+{
+    let (more, rest) = read_main_entry(alloc, tokens, limits)?;
+    list.append(more)?;
+    Ok((list, rest))
+}
+
+/// The declarations and bindings of `sc_main`.
+#[tactic(auto, using(ooo_grammar::specs::Steps::steps))]
+pub(crate) fn read_main_entries<'a>(
+    alloc: Global,
+    tokens: &'a [Symbol<'a>],
+    limits: Limits,
+) -> Read<'a, Items<MainItem>>
+    ensures { Gives (reads_at limits main_entries tokens.now) result }
+{
+    let (mut list, mut rest) = none_yet(alloc, tokens);
+    'turns: for _turn in 0..rest.len() {
+        if !begins_with_main_entry(rest) {
+            return Ok((list, rest));
+        }
+        let (more, after) = read_one_more_main_entry(alloc, list, rest, limits)?;
+        list = more;
+        rest = after;
+    }
+    Ok((list, rest))
+}
