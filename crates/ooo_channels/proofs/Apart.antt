@@ -3,13 +3,15 @@ use Rattle.std.proofs.Common.{◌≡◌, ◌++◌, ◌||◌, ℕ, Bool, true, fa
 use Rattle.std.specs.Prelude.{fold, filter, slice_get}
 use Rattle.std.specs.List.{list_any}
 use Rattle.ooo_time.specs.declared.stamp.Stamp.{Stamp}
+use Rattle.ooo_time.specs.Stamps.{is_before}
 use Rattle.ooo_value.specs.declared.bound.BoundEvent.{BoundEvent}
 use Rattle.ooo_code.specs.declared.activation.Effect.{Effect}
 use Rattle.ooo_code.specs.declared.activation.Effect.TheVariants as effect
-use Rattle.ooo_channels.specs.Operations.{Operation, Operations, after_effect, after_effects, is_on, is_call_on}
+use Rattle.ooo_channels.specs.Operations.{Operation, Operations, after_effect, after_effects, operations_before, is_on, is_call_on}
 use Rattle.ooo_channels.specs.Cycles.{Cycle, cycle_of, cycle_after, cycle_step, first_cycle}
 use Rattle.ooo_channels.specs.Calls.{Notified, notified_by, notified_step, own_calls, own_call, channel_calls, channel_of, bears_on, renewals}
 use Rattle.ooo_channels.specs.Apart.{operations_on, SameOn, IsChannelSame, LeavesOthers}
+use Rattle.ooo_channels.proofs.Befores.{cycle_before-other}
 use Rattle.ooo_channels.proofs.Steps.{operation, cycle_of-other, own_calls-after, channel_calls-after, bears_not}
 
 -- ---- one effect
@@ -38,6 +40,11 @@ module _ (at : Stamp) where
   channels_left ops (f ∷ fs) c none =
       channels_left (after_effect at ops f) fs c (none_after (is_on c f) _ none) ∙ cycle_of-other ops at f c (none_first (is_on c f) _ none)
 
+  before_left : (ops : Operations) (fs : List Effect) (c : ℕ) (t : Stamp) → list_any (is_on c) fs ≡ false → cycle_of (operations_before t (after_effects at ops fs)) c ≡ cycle_of (operations_before t ops) c
+  before_left ops [] c t none = refl
+  before_left ops (f ∷ fs) c t none =
+      before_left (after_effect at ops f) fs c t (none_after (is_on c f) _ none) ∙ cycle_before-other ops at f c (none_first (is_on c f) _ none) t
+
   notices_left : (ops : Operations) (fs : List Effect) (k : BoundEvent) → list_any (bears_on k) fs ≡ false → channel_calls (after_effects at ops fs) k ≡ channel_calls ops k
   notices_left ops [] k none = refl
   notices_left ops (f ∷ fs) k none =
@@ -54,7 +61,7 @@ module _ (at : Stamp) where
       ∙ append-nil (own_calls ops e)
 
   pub others_left : (ops : Operations) (fs : List Effect) → LeavesOthers at ops fs
-  others_left ops fs = record { channels = channels_left ops fs; notices = notices_left ops fs; own = own_left ops fs }
+  others_left ops fs = record { channels = channels_left ops fs; before = before_left ops fs; notices = notices_left ops fs; own = own_left ops fs }
 
 -- ---- the operations on a channel
 
@@ -86,15 +93,35 @@ notified_operations k x (o ∷ os) = go (λ y. notified_operations k y os) (is_o
   go rest true on = ap (λ y. fold (notified_step k) y os) (step_on k x o on) ∙ rest (notified_on k x o)
   go rest false off = ap (λ y. fold (notified_step k) y os) (step_off k x o off) ∙ rest x
 
-module _ (ops others : Operations) (c : ℕ) (h : SameOn c ops others) where
-  cycle_same : cycle_of ops c ≡ cycle_of others c
-  unfolding cycle_of
-  cycle_same =
-      by_operations c (first_cycle (slice_get ops.channels c)) ops.applied
-      ∙ ap (λ b. fold cycle_after (first_cycle b) (operations_on c ops)) h.channel
-      ∙ ap (λ os. fold cycle_after (first_cycle (slice_get others.channels c)) os) h.operations
-      ∙ sym (by_operations c (first_cycle (slice_get others.channels c)) others.applied)
+cycle_same : (ops others : Operations) (c : ℕ) → SameOn c ops others → cycle_of ops c ≡ cycle_of others c
+unfolding cycle_of
+cycle_same ops others c h =
+    by_operations c (first_cycle (slice_get ops.channels c)) ops.applied
+    ∙ ap (λ b. fold cycle_after (first_cycle b) (operations_on c ops)) h.channel
+    ∙ ap (λ os. fold cycle_after (first_cycle (slice_get others.channels c)) os) h.operations
+    ∙ sym (by_operations c (first_cycle (slice_get others.channels c)) others.applied)
 
+-- two filters, in either order
+filters_swap : (p q : Operation → Bool) (os : List Operation) → filter p (filter q os) ≡ filter q (filter p os)
+filters_swap p q [] = refl
+filters_swap p q (o ∷ os) = go (filters_swap p q os) (p o) (q o) refl refl where
+  go : filter p (filter q os) ≡ filter q (filter p os) → (a b : Bool) → p o ≡ a → q o ≡ b → filter p (cond b (o ∷ filter q os) (filter q os)) ≡ filter q (cond a (o ∷ filter p os) (filter p os))
+  go rest true true e f = rw (e, f) (ap (λ xs. o ∷ xs) rest)
+  go rest true false e f = rw f rest
+  go rest false true e f = rw e rest
+  go rest false false e f = rest
+
+-- the same operations on a channel are the same before a stamp
+same_before : (ops others : Operations) (c : ℕ) (at : Stamp) → SameOn c ops others → SameOn c (operations_before at ops) (operations_before at others)
+same_before ops others c at h = record {
+  channel = h.channel;
+  operations =
+      filters_swap (λ o. is_on c o.effect) (λ o. is_before o.at at) ops.applied
+      ∙ ap (filter (λ o. is_before o.at at)) h.operations
+      ∙ filters_swap (λ o. is_before o.at at) (λ o. is_on c o.effect) others.applied;
+}
+
+module _ (ops others : Operations) (c : ℕ) (h : SameOn c ops others) where
   notified_same : (k : BoundEvent) → channel_of k ≡ c → notified_by ops k ≡ notified_by others k
   unfolding notified_by
   notified_same k is =
@@ -105,4 +132,4 @@ module _ (ops others : Operations) (c : ℕ) (h : SameOn c ops others) where
       ∙ sym (notified_operations k (record { cycle = first_cycle (slice_get others.channels (channel_of k)); calls = [] }) others.applied)
 
   pub channel_same : IsChannelSame c ops others
-  channel_same = record { cycle = cycle_same; events = λ k is. ap (λ x. x.calls) (notified_same k is) }
+  channel_same = record { cycle = cycle_same ops others c h; before = λ at. cycle_same (operations_before at ops) (operations_before at others) c (same_before ops others c at h); events = λ k is. ap (λ x. x.calls) (notified_same k is) }

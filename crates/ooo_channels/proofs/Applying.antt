@@ -21,10 +21,11 @@ use Rattle.ooo_channels.proofs.Banked.{untouched}
 -- room for more is room for less
 pub HasNoticeRoom-less : (n m : ℕ) (x : Notice) → m ≤ n → HasNoticeRoom n x → HasNoticeRoom m x
 HasNoticeRoom-less n m (notice.Kept x) le room = omega (arith, le, room)
-HasNoticeRoom-less n m notice.Unasked le room = tt
+HasNoticeRoom-less n m notice.Absent le room = tt
 
 pub HasRoom-less : (n m : ℕ) (s : ChannelState) → m ≤ n → HasRoom n s → HasRoom m s
 HasRoom-less n m (state.Signal s) le room = record {
+  past = omega (arith, room.past);
   history = omega (arith, room.history);
   changes = HasNoticeRoom-less n m s.changes le room.changes;
   rises = HasNoticeRoom-less n m s.rises le room.rises;

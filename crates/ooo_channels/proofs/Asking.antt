@@ -86,7 +86,7 @@ module _ (xs : List ChannelState) (kinds : List BoundEvent) (es : List EventStat
     mine = kind_is ops e k h (kind_there ops e h has) is
 
     kept : IsKeptIn xs k
-    kept = subst (IsKeptIn xs) (get_or_from_slice_get ops.events e k k mine) (h.asked e k (slice_get_within ops.events e k mine))
+    kept = subst (IsKeptIn xs) (get_or_from_slice_get ops.events e k k mine) (h.present e k (slice_get_within ops.events e k mine))
 
     within : channel_of k < length xs
     within = subst (λ n. n < length xs) at (event_channel_there ops e k c h has is at ne)

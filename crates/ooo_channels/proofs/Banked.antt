@@ -9,18 +9,23 @@ use Rattle.ooo_value.specs.declared.bound.BoundChannel.{BoundChannel}
 use Rattle.ooo_value.specs.declared.bound.BoundEvent.{BoundEvent}
 use Rattle.ooo_value.specs.declared.bound.BoundEvent.TheVariants as event
 use Rattle.ooo_value.specs.declared.bound.ChannelKind.{ChannelKind}
+use Rattle.ooo_value.specs.declared.bound.ChannelKind.TheVariants as kind
 use Rattle.ooo_events.specs.declared.call.Call.{Call}
 use Rattle.ooo_events.specs.Events.{EventState}
 use Rattle.ooo_code.specs.declared.activation.Effect.{Effect}
+use Rattle.ooo_code.specs.Channels.{Channel}
 use Rattle.ooo_channels.specs.declared.channel.ChannelState.{ChannelState}
+use Rattle.ooo_channels.specs.declared.channel.ChannelState.TheVariants as state
 use Rattle.ooo_channels.specs.Operations.{Operations, after_effect, is_on, is_call_on}
-use Rattle.ooo_channels.specs.Cycles.{cycle_of, cycle_after}
+use Rattle.ooo_channels.specs.Cycles.{cycle_of, cycle_after, channel_before}
 use Rattle.ooo_channels.specs.Calls.{own_calls, own_call, channel_calls, channel_of, renewals}
 use Rattle.ooo_channels.specs.Conditions.{HasChannel}
-use Rattle.ooo_channels.specs.Kept.{IsEventKept, IsChannelAfter, IsChannelNext, HasKind, Keeps}
+use Rattle.ooo_channels.specs.Kept.{IsEventKept, IsChannelAfter, IsChannelNext, ChannelShows, HasKind, Keeps}
 use Rattle.ooo_channels.specs.Room.{HasRoom, count}
 use Rattle.ooo_channels.specs.Bank.{BankState, IsBankAfter, IsKeptIn, Covers}
 use Rattle.ooo_channels.proofs.Steps.{operation, cycle_of-other, cycle_of-on, channel_calls-other, channel_calls-after, own_calls-after, IsChannelAfter-calls}
+use Rattle.ooo_channels.proofs.Versions.{AreVersionsOf-same}
+use Rattle.ooo_channels.proofs.Befores.{channel_before-other}
 
 -- what holds of the place that is set, and of each other, holds of each
 pub set_cases : {A : Type 0} (P : ℕ → A → Type 0) (xs : List A) (i : ℕ) (x d : A) → i < length xs → P i x → ((j : ℕ) → j ≢ i → P j (get_or xs j d)) → (j : ℕ) → P j (get_or (set xs i x) j d)
@@ -48,6 +53,16 @@ module _ (xs : List ChannelState) (c : ℕ) (s t : ChannelState) (lt : c < lengt
   pub all_kept-set : (ks : List BoundEvent) → All (IsKeptIn xs) ks → All (IsKeptIn (set xs c t)) ks
   all_kept-set ks h = λ n e within. kept_in-set (get_or ks n e) (h n e within)
 
+-- of a fifo nothing is said by what is seen of signals
+pub fifo_shows : (below : Stamp) (was : Stamp → Channel) (s : ChannelState) → HasKind kind.Fifo s → ChannelShows below was s
+fifo_shows below was (state.Signal s) is = absurd is
+fifo_shows below was (state.Fifo s) is = tt
+
+-- what is seen of a channel, where the same was seen
+ChannelShows-same : (below : Stamp) (was next : Stamp → Channel) (s : ChannelState) → ((t : Stamp) → next t ≡ was t) → ChannelShows below was s → ChannelShows below next s
+ChannelShows-same below was next (state.Signal s) same h = record { start = h.start; each = AreVersionsOf-same was next same (s.past.items ++ s.newest ∷ []) h.each }
+ChannelShows-same below was next (state.Fifo s) same h = tt
+
 module _ (ops : Operations) (at : Stamp) (f : Effect) where
   -- a channel that the effect isn't on
   pub channel_other :
@@ -67,6 +82,9 @@ module _ (ops : Operations) (at : Stamp) (f : Effect) where
       (λ k is. ap (λ x. channel_calls ops k ++ renewals k x.channel (operation at f)) (sym (cycle_of-on ops at f c on) ∙ ap (cycle_of (after_effect at ops f)) (sym is)) ∙ sym (channel_calls-after ops at f k))
       (subst (λ x. IsChannelAfter c ops.below x (λ k. channel_calls ops k ++ renewals k (cycle_after (cycle_of ops c) (operation at f)).channel (operation at f)) s) (sym (cycle_of-on ops at f c on)) h)
 
+  pub other_shows : (d : ℕ) (s : ChannelState) → is_on d f ≡ false → ChannelShows ops.below (channel_before ops d) s → ChannelShows ops.below (channel_before (after_effect at ops f) d) s
+  other_shows d s off h = ChannelShows-same ops.below (channel_before ops d) (channel_before (after_effect at ops f) d) s (channel_before-other ops at f d off) h
+
   -- an event that it makes no call on
   pub event_other :
       (e : ℕ) (x : EventState) → own_call e (operation at f) ≡ [] → IsEventKept ops.below x (own_calls ops e) →
@@ -85,6 +103,12 @@ module _ (xs : List ChannelState) (kinds : List BoundEvent) (es : List EventStat
       subst (λ b. IsChannelAfter c b (cycle_of ops c) (channel_calls ops) s) (sym h.below)
       (subst (IsChannelAfter c ops.below (cycle_of ops c) (channel_calls ops)) (sym is) (h.channels c s lt))
 
+  pub channel_shown :
+      (ops : Operations) (c : ℕ) (s : ChannelState) → IsBankAfter bank ops → c < length xs → s ≡ get_or xs c s → ChannelShows below (channel_before ops c) s
+  channel_shown ops c s h lt is =
+      subst (λ b. ChannelShows b (channel_before ops c) s) (sym h.below)
+      (subst (ChannelShows ops.below (channel_before ops c)) (sym is) (h.shows c s lt))
+
   pub channel_there : (ops : Operations) (c : ℕ) (k : ChannelKind) → IsBankAfter bank ops → HasChannel ops c k → c < length xs
   channel_there ops c k h has = omega (arith, slice_get_within ops.channels c has.channel has.is, h.channel_count)
 
@@ -102,17 +126,18 @@ module _ (xs : List ChannelState) (kinds : List BoundEvent) (es : List EventStat
     below = h.below;
     channel_kinds = h.channel_kinds;
     channels = λ c d lt. channel_other ops at f c (get_or xs c d) (off c) (h.channels c d lt);
+    shows = λ c d lt. other_shows ops at f c (get_or xs c d) (off c) (h.shows c d lt);
     events = λ e d own. event_other ops at f e (get_or es e d) (silent e) (h.events e d own);
-    asked = h.asked;
+    present = h.present;
   }
 
   -- an effect on a channel
   pub channel_applied :
       (ops : Operations) (at : Stamp) (f : Effect) (c : ℕ) (k : ChannelKind) (s t : ChannelState) → IsBankAfter bank ops → HasChannel ops c k → HasKind k t → s ≡ get_or xs c s → ((k : BoundEvent) → Keeps k s → Keeps k t) →
       is_on c f ≡ true → ((d : ℕ) → d ≢ c → is_on d f ≡ false) → ((e : ℕ) → own_call e (operation at f) ≡ []) →
-      IsChannelNext c below (cycle_of ops c) (channel_calls ops) (operation at f) t →
+      IsChannelNext c below (cycle_of ops c) (channel_calls ops) (operation at f) t → ChannelShows below (channel_before (after_effect at ops f) c) t →
       IsBankAfter (record { channels = set xs c t; kinds = kinds; events = es; below = below }) (after_effect at ops f)
-  channel_applied ops at f c k was t h has kind is keeps on off silent next = record {
+  channel_applied ops at f c k was t h has kind is keeps on off silent next shown = record {
     channel_count = length-set xs c t ∙ h.channel_count;
     event_count = h.event_count;
     kinds = h.kinds;
@@ -120,8 +145,10 @@ module _ (xs : List ChannelState) (kinds : List BoundEvent) (es : List EventStat
     channel_kinds = λ d s b is. set_cases (λ j x. (b : BoundChannel) → slice_get ops.channels j ≡ Some b → HasKind b.kind x) xs c t s there one (λ j ne b is. h.channel_kinds j s b is) d b is;
     channels = λ d s lt. set_cases (λ j x. j < length xs → IsChannelAfter j ops.below (cycle_of (after_effect at ops f) j) (channel_calls (after_effect at ops f)) x) xs c t s there
         (λ _. channel_on ops at f c t on (subst (λ b. IsChannelNext c b (cycle_of ops c) (channel_calls ops) (operation at f) t) h.below next)) (λ j ne below. channel_other ops at f j (get_or xs j s) (off j ne) (h.channels j s below)) d (let e = length-set xs c t in omega (arith, lt, e));
+    shows = λ d s lt. set_cases (λ j x. j < length xs → ChannelShows ops.below (channel_before (after_effect at ops f) j) x) xs c t s there
+        (λ _. subst (λ b. ChannelShows b (channel_before (after_effect at ops f) c) t) h.below shown) (λ j ne within. other_shows ops at f j (get_or xs j s) (off j ne) (h.shows j s within)) d (let e = length-set xs c t in omega (arith, lt, e));
     events = λ e d own. event_other ops at f e (get_or es e d) (silent e) (h.events e d own);
-    asked = all_kept-set xs c was t there is keeps ops.events h.asked;
+    present = all_kept-set xs c was t there is keeps ops.events h.present;
   } where
     there : c < length xs
     there = channel_there ops c k h has
@@ -142,10 +169,11 @@ module _ (xs : List ChannelState) (kinds : List BoundEvent) (es : List EventStat
     below = h.below;
     channel_kinds = h.channel_kinds;
     channels = λ d s lt. channel_other ops at f d (get_or xs d s) (off d) (h.channels d s lt);
+    shows = λ d s lt. other_shows ops at f d (get_or xs d s) (off d) (h.shows d s lt);
     events = λ d z is. set_cases (λ j a. slice_get ops.events j ≡ Some event.Own → IsEventKept ops.below a (own_calls (after_effect at ops f) j)) es e y z there
         (λ _. subst (IsEventKept ops.below y) (sym (own_calls-after ops at f e ∙ ap (λ cs. own_calls ops e ++ cs) on)) (subst (λ b. IsEventKept b y (own_calls ops e ++ c ∷ [])) h.below (kept (own_calls ops e) (subst (λ b. IsEventKept b x (own_calls ops e)) (sym h.below) was))))
         (λ j ne mine. event_other ops at f j (get_or es j z) (silent j ne) (h.events j z mine)) d is;
-    asked = h.asked;
+    present = h.present;
   } where
     there : e < length es
     there = omega (arith, slice_get_within ops.events e event.Own own, h.event_count)

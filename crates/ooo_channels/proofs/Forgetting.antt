@@ -1,20 +1,22 @@
 -- A bank that forgets.
-use Rattle.std.proofs.Common.{◌≡◌, ℕ, Bool, cond, List, subst}
+use Rattle.std.proofs.Common.{◌≡◌, ℕ, Bool, cond, List, [], ◌∷◌, ◌++◌, subst}
 use Rattle.ooo_time.specs.declared.stamp.Stamp.{Stamp}
 use Rattle.ooo_time.specs.Stamps.{IsBefore}
 use Rattle.ooo_value.specs.declared.bound.BoundEvent.{BoundEvent}
 use Rattle.ooo_events.specs.declared.call.Call.{Call}
+use Rattle.ooo_code.specs.Channels.{Channel}
 use Rattle.ooo_events.specs.Events.{EventState}
 use Rattle.ooo_channels.specs.declared.notices.Notice.{Notice}
 use Rattle.ooo_channels.specs.declared.notices.Notice.TheVariants as notice
 use Rattle.ooo_channels.specs.declared.channel.ChannelState.{ChannelState}
 use Rattle.ooo_channels.specs.declared.channel.ChannelState.TheVariants as state
 use Rattle.ooo_channels.specs.Operations.{Operations, later_of, after_forgetting}
-use Rattle.ooo_channels.specs.Cycles.{Cycle, cycle_of}
+use Rattle.ooo_channels.specs.Cycles.{Cycle, cycle_of, channel_before}
 use Rattle.ooo_channels.specs.Calls.{notified_by, own_calls}
-use Rattle.ooo_channels.specs.Kept.{IsEventKept, IsNotice, IsChannelAfter}
+use Rattle.ooo_channels.specs.Kept.{IsEventKept, IsNotice, IsChannelAfter, ChannelShows}
 use Rattle.ooo_channels.specs.Bank.{IsBankAfter}
-use Rattle.ooo_channels.proofs.Orders.{Earlier, earlier, not_earlier, earlier_or_not, IsBefore-trans}
+use Rattle.ooo_channels.proofs.Orders.{Earlier, earlier, not_earlier, earlier_or_not, IsBefore-irrefl, IsBefore-trans}
+use Rattle.ooo_channels.proofs.Versions.{starts_later}
 
 -- what isn't before the later of two stamps is before neither
 not_before-later_of : (a b s : Stamp) → ¬ IsBefore s (later_of a b) → ¬ IsBefore s a
@@ -29,7 +31,7 @@ module _ (below more : Stamp) (wider : (s : Stamp) → ¬ IsBefore s more → ¬
 
   notice_wider : (stamp : Stamp) (x : Notice) (calls : List Call) → IsNotice below stamp x calls → IsNotice more stamp x calls
   notice_wider stamp (notice.Kept x) calls h = record { kept = event_wider x calls h.kept; by = h.by }
-  notice_wider stamp notice.Unasked calls h = record { kept = tt; by = tt }
+  notice_wider stamp notice.Absent calls h = record { kept = tt; by = tt }
 
   channel_wider : (c : ℕ) (x : Cycle) (calls : BoundEvent → List Call) (s : ChannelState) → IsChannelAfter c below x calls s → IsChannelAfter c more x calls s
   channel_wider c x calls (state.Signal s) h = record {
@@ -46,6 +48,10 @@ module _ (below more : Stamp) (wider : (s : Stamp) → ¬ IsBefore s more → ¬
     room = h.room;
   }
 
+  channel_shows : (was : Stamp → Channel) (s : ChannelState) → ChannelShows below was s → ChannelShows more was s
+  channel_shows was (state.Signal s) h = record { start = starts_later below more (wider more (IsBefore-irrefl more)) (s.past.items ++ s.newest ∷ []) h.start; each = h.each }
+  channel_shows was (state.Fifo s) h = tt
+
 -- a bank that forgets more
 pub bank_forgets :
     (xs : List ChannelState) (kinds : List BoundEvent) (es : List EventState) (was now below : Stamp) (ops : Operations) →
@@ -59,6 +65,7 @@ bank_forgets xs kinds es was now below ops is h = record {
   below = subst (λ b. now ≡ later_of b below) h.below is;
   channel_kinds = h.channel_kinds;
   channels = λ c d lt. channel_wider ops.below (later_of ops.below below) (λ s. not_before-later_of ops.below below s) c _ _ _ (h.channels c d lt);
+  shows = λ c d lt. channel_shows ops.below (later_of ops.below below) (λ s. not_before-later_of ops.below below s) (channel_before ops c) _ (h.shows c d lt);
   events = λ e d own. event_wider ops.below (later_of ops.below below) (λ s. not_before-later_of ops.below below s) _ _ (h.events e d own);
-  asked = h.asked;
+  present = h.present;
 }

@@ -2,10 +2,13 @@ pub mod Orders
 pub mod Keeping
 pub mod Logging
 pub mod Moves
+pub mod Versions
+pub mod Reached
 pub mod Fifos
 pub mod Renewals
 pub mod Starts
 pub mod Steps
+pub mod Befores
 pub mod Banked
 pub mod Making
 pub mod Histories

@@ -10,12 +10,13 @@ use Rattle.ooo_value.specs.declared.bound.ChannelKind.{ChannelKind}
 use Rattle.ooo_value.specs.declared.bound.BoundEvent.{BoundEvent}
 use Rattle.ooo_value.specs.declared.bound.BoundEvent.TheVariants as event
 use Rattle.ooo_events.specs.Events.{EventState, IsEventAfter}
+use Rattle.ooo_code.specs.Channels.{Channel}
 use Rattle.ooo_channels.specs.declared.channel.ChannelState.{ChannelState}
 use Rattle.ooo_meaning.specs.World.{zero_stamp}
 use Rattle.ooo_channels.specs.Operations.{no_operations}
-use Rattle.ooo_channels.specs.Cycles.{Cycle, first_cycle, cycle_of}
+use Rattle.ooo_channels.specs.Cycles.{Cycle, first_cycle, first_shown, cycle_of}
 use Rattle.ooo_channels.specs.Calls.{notified_by, own_calls}
-use Rattle.ooo_channels.specs.Kept.{IsEventKept, IsChannelAfter, HasKind}
+use Rattle.ooo_channels.specs.Kept.{IsEventKept, IsChannelAfter, ChannelShows, HasKind}
 use Rattle.ooo_channels.specs.Bank.{IsBankAfter, IsKeptIn, IsFirst, AreFirst, AreNew}
 use Rattle.ooo_channels.proofs.Banked.{set_cases}
 
@@ -53,8 +54,9 @@ pub first_more :
     (channels : List BoundChannel) (i : ℕ) (b : BoundChannel) (made more : List ChannelState) (x : ChannelState) → i < length channels →
     AreFirst channels i made → more ≡ made ++ x ∷ [] → HasKind (get_or channels i b).kind x →
     ((c : ℕ) (below : Stamp) → IsChannelAfter c below (first_cycle (Some (get_or channels i b))) (λ k. []) x) →
+    ((below : Stamp) → ChannelShows below (first_shown (Some (get_or channels i b))) x) →
     AreFirst channels (i + 1) more
-first_more channels i b made more x lt h is kind first = record {
+first_more channels i b made more x lt h is kind first shows = record {
   count_is = ap length is ∙ length-append made (x ∷ []) ∙ ap (λ k. k + 1) h.count_is;
   first = λ c d within. each_push (IsFirst channels) made more x d is (λ k below. h.first k d below) (subst (λ n. IsFirst channels n x) (sym h.count_is) one) c within;
 } where
@@ -65,33 +67,35 @@ first_more channels i b made more x lt h is kind first = record {
   one = record {
     kind = λ z e. let same : get_or channels i b ≡ z = cc there in subst (λ y. HasKind y.kind x) same kind;
     first = λ below. subst (λ o. IsChannelAfter i below (first_cycle o) (λ k. []) x) (sym there) (first i below);
+    shows = λ below. subst (λ o. ChannelShows below (first_shown o) x) (sym there) (shows below);
   }
 
 -- ---- their events
 
 -- a channel that keeps one of its events besides
-pub first_asked :
+pub first_present :
     (channels : List BoundChannel) (n : ℕ) (xs : List ChannelState) (c : ℕ) (s t : ChannelState) → c < length xs → s ≡ get_or xs c s →
     ((k : ChannelKind) → HasKind k s → HasKind k t) →
     ((c : ℕ) (below : Stamp) (x : Cycle) → IsChannelAfter c below x (λ k. []) s → IsChannelAfter c below x (λ k. []) t) →
+    ((below : Stamp) (was : Stamp → Channel) → ChannelShows below was s → ChannelShows below was t) →
     AreFirst channels n xs → AreFirst channels n (set xs c t)
-first_asked channels n xs c s t lt is kind after h = record {
+first_present channels n xs c s t lt is kind after shows h = record {
   count_is = length-set xs c t ∙ h.count_is;
   first = λ d z within. set_cases (λ j a. j < length xs → IsFirst channels j a) xs c t z lt
       (λ _. one (subst (IsFirst channels c) (sym is) (h.first c s lt))) (λ j ne there. h.first j z there) d (let l = length-set xs c t in omega (arith, within, l));
 } where
   one : IsFirst channels c s → IsFirst channels c t
-  one was = record { kind = λ b at. kind b.kind (was.kind b at); first = λ below. after c below (first_cycle (slice_get channels c)) (was.first below) }
+  one was = record { kind = λ b at. kind b.kind (was.kind b at); first = λ below. after c below (first_cycle (slice_get channels c)) (was.first below); shows = λ below. shows below (first_shown (slice_get channels c)) (was.shows below) }
 
 -- the first events of a list are kept
-pub asked_none : (xs : List ChannelState) (events : List BoundEvent) → All (IsKeptIn xs) (take 0 events)
-asked_none xs events = All-nil (IsKeptIn xs)
+pub present_none : (xs : List ChannelState) (events : List BoundEvent) → All (IsKeptIn xs) (take 0 events)
+present_none xs events = All-nil (IsKeptIn xs)
 
-pub asked_more :
+pub present_more :
     (xs ys : List ChannelState) (events : List BoundEvent) (i : ℕ) (d : BoundEvent) → i < length events →
     ((k : BoundEvent) → IsKeptIn xs k → IsKeptIn ys k) → IsKeptIn ys (get_or events i d) →
     All (IsKeptIn xs) (take i events) → All (IsKeptIn ys) (take (i + 1) events)
-asked_more xs ys events i d lt others one h =
+present_more xs ys events i d lt others one h =
     subst (All (IsKeptIn ys)) (sym (take_more events i d lt))
     (All-append (IsKeptIn ys) (take i events) (get_or events i d ∷ [])
     (λ n e within. others (get_or (take i events) n e) (h n e within))
@@ -104,15 +108,16 @@ pub bank_made :
     AreFirst channels (length channels) xs → AreNew (length events) es → All (IsKeptIn xs) events →
     IsBankAfter (record { channels = xs; kinds = events; events = es; below = zero_stamp }) (no_operations channels events)
 unfolding cycle_of notified_by own_calls
-bank_made channels events xs es first new asked = record {
+bank_made channels events xs es first new present = record {
   channel_count = first.count_is;
   event_count = new.count_is;
   kinds = refl;
   below = refl;
   channel_kinds = λ c d b is. (first.first c d (omega (arith, slice_get_within channels c b is, first.count_is))).kind b is;
   channels = λ c d lt. (first.first c d lt).first zero_stamp;
+  shows = λ c d lt. (first.first c d lt).shows zero_stamp;
   events = λ e d own. new.new e d zero_stamp (slice_get_within events e event.Own own);
-  asked = asked;
+  present = present;
 }
 
 pub stamp_zero : (s : Stamp) → (s.time.0 ≡ 0) × (s.delta ≡ 0) → s ≡ zero_stamp

@@ -1,7 +1,8 @@
 -- The order of stamps, and its test.
 use Rattle.std.proofs.Common.{◌≡◌, Bool, true, false, refl, arith}
+use Rattle.std.specs.Prelude.{IsTrue, ◌↔◌}
 use Rattle.std.specs.Bool.{Decides}
-use Rattle.std.proofs.lemmas.Bool.Decides.{Decides-or, Decides-and, Decides-ltb, Decides-eqb, not_from_Decides}
+use Rattle.std.proofs.lemmas.Bool.Decides.{Decides-or, Decides-and, Decides-ltb, Decides-eqb, not_from_Decides, same_from_decides}
 use Rattle.ooo_time.specs.declared.stamp.Stamp.{Stamp}
 use Rattle.ooo_time.specs.Stamps.{IsBefore, is_before}
 
@@ -38,3 +39,17 @@ IsBefore-trans a b c h k = grind arith
 -- where `b` isn't before `a`, what is after `b` is after `a`
 pub IsBefore-from_not : (a b c : Stamp) → ¬ IsBefore b a → IsBefore b c → IsBefore a c
 IsBefore-from_not a b c h k = grind arith
+
+pub not_after : (a b : Stamp) → IsBefore a b → ¬ IsBefore b a
+not_after a b h k = IsBefore-irrefl a (IsBefore-trans a b a h k)
+
+pub not_before-trans : (a b c : Stamp) → ¬ IsBefore b a → ¬ IsBefore c b → ¬ IsBefore c a
+not_before-trans a b c h k l = grind arith
+
+-- stamps of which neither is before the other are the same
+pub stamps_same : (a b : Stamp) → ¬ IsBefore a b → ¬ IsBefore b a → a ≡ b
+stamps_same a b h k = let time : a.time.0 ≡ b.time.0 = grind arith in let delta : a.delta ≡ b.delta = grind arith in rw (time, delta) refl
+
+-- an answer of a call that tests it is the test's
+pub tells_is_before : (r : Bool) (s t : Stamp) → IsTrue r ↔ IsBefore s t → r ≡ is_before s t
+tells_is_before r s t h = same_from_decides r (is_before s t) h (is_before_decides s t)

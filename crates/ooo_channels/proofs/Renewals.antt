@@ -15,7 +15,8 @@ use Rattle.ooo_channels.specs.Operations.{Operation}
 use Rattle.ooo_channels.specs.Cycles.{Cycle, cycle_after}
 use Rattle.ooo_channels.specs.Calls.{notifies, bears_on, renewal, renewals}
 use Rattle.ooo_channels.specs.Room.{HasSignalRoom, HasFifoRoom}
-use Rattle.ooo_channels.specs.Kept.{IsNoticeKept, IsNoticeBy, IsNotice, IsSignalIn, IsFifoIn, IsSignalAfter, IsFifoAfter, AreSignalEventsBy, AreFifoEventsBy, signal_of}
+use Rattle.ooo_channels.specs.Kept.{IsNoticeKept, IsNoticeBy, IsNotice, IsSignalIn, IsFifoIn, IsSignalAfter, IsFifoAfter, AreSignalEventsBy, AreFifoEventsBy}
+use Rattle.ooo_channels.specs.Versions.{signal_of}
 
 -- an event on which the operation bears
 notice_next :
@@ -42,18 +43,18 @@ module _ (s t : SignalState) (c : ℕ) (below : Stamp) (x : Cycle) (calls : Boun
   -- a signal after a request
   pub signal_next :
       IsSignalAfter c below x calls s → IsSignalIn t (cycle_after x (record { at = at; effect = effect.Request c v })) → AreSignalEventsBy t →
-      ((cs : List Call) → IsNoticeKept below s.changes cs → IsNoticeKept below t.changes (cs ++ renewal at (notifies (event.Changed 0) (IsSignal (signal_of t))) ∷ [])) →
-      ((cs : List Call) → IsNoticeKept below s.rises cs → IsNoticeKept below t.rises (cs ++ renewal at (notifies (event.Rise 0) (IsSignal (signal_of t))) ∷ [])) →
-      ((cs : List Call) → IsNoticeKept below s.falls cs → IsNoticeKept below t.falls (cs ++ renewal at (notifies (event.Fall 0) (IsSignal (signal_of t))) ∷ [])) →
+      ((cs : List Call) → IsNoticeKept below s.changes cs → IsNoticeKept below t.changes (cs ++ renewal at (notifies (event.Changed 0) (IsSignal (signal_of t.newest))) ∷ [])) →
+      ((cs : List Call) → IsNoticeKept below s.rises cs → IsNoticeKept below t.rises (cs ++ renewal at (notifies (event.Rise 0) (IsSignal (signal_of t.newest))) ∷ [])) →
+      ((cs : List Call) → IsNoticeKept below s.falls cs → IsNoticeKept below t.falls (cs ++ renewal at (notifies (event.Fall 0) (IsSignal (signal_of t.newest))) ∷ [])) →
       HasSignalRoom 0 t →
       (let o : Operation = record { at = at; effect = effect.Request c v } in
       IsSignalAfter c below (cycle_after x o) (λ k. calls k ++ renewals k (cycle_after x o).channel o) t)
   signal_next h is by changes rises falls room = record {
     room = room;
     cycle = is;
-    changes = notice_next (event.Changed c) o (cycle_after x o) s.changes t.changes below t.stamp (calls (event.Changed c)) _ same (ap (notifies (event.Changed c)) (sym is.channel)) is.stamp h.changes.kept changes by.changes;
-    rises = notice_next (event.Rise c) o (cycle_after x o) s.rises t.rises below t.stamp (calls (event.Rise c)) _ same (ap (notifies (event.Rise c)) (sym is.channel)) is.stamp h.rises.kept rises by.rises;
-    falls = notice_next (event.Fall c) o (cycle_after x o) s.falls t.falls below t.stamp (calls (event.Fall c)) _ same (ap (notifies (event.Fall c)) (sym is.channel)) is.stamp h.falls.kept falls by.falls;
+    changes = notice_next (event.Changed c) o (cycle_after x o) s.changes t.changes below t.newest.stamp (calls (event.Changed c)) _ same (ap (notifies (event.Changed c)) (sym is.channel)) is.stamp h.changes.kept changes by.changes;
+    rises = notice_next (event.Rise c) o (cycle_after x o) s.rises t.rises below t.newest.stamp (calls (event.Rise c)) _ same (ap (notifies (event.Rise c)) (sym is.channel)) is.stamp h.rises.kept rises by.rises;
+    falls = notice_next (event.Fall c) o (cycle_after x o) s.falls t.falls below t.newest.stamp (calls (event.Fall c)) _ same (ap (notifies (event.Fall c)) (sym is.channel)) is.stamp h.falls.kept falls by.falls;
   } where
     o : Operation
     o = record { at = at; effect = effect.Request c v }

@@ -26,12 +26,13 @@ use Rattle.ooo_value.specs.declared.bound.BoundEvent.{BoundEvent}
 use Rattle.ooo_events.specs.declared.call.Call.{Call}
 use Rattle.ooo_events.specs.Calls.{Follows}
 use Rattle.ooo_events.specs.Events.{EventState, IsEventAfter}
-use Rattle.ooo_code.specs.Channels.{IsSignal}
+use Rattle.ooo_code.specs.Channels.{Channel, IsSignal}
+use Rattle.ooo_channels.specs.Versions.{signal_of}
 use Rattle.ooo_channels.specs.declared.signal.SignalState.{SignalState}
 use Rattle.ooo_channels.specs.declared.fifo.FifoState.{FifoState}
-use Rattle.ooo_channels.specs.Cycles.{Cycle, cycle_of}
+use Rattle.ooo_channels.specs.Cycles.{Cycle, cycle_of, channel_before}
 use Rattle.ooo_channels.specs.Room.{HasSignalRoom, HasFifoRoom, HasRoom, count}
-use Rattle.ooo_channels.specs.Kept.{IsEventKept, IsNotice, IsSignalAfter, IsFifoAfter, IsChannelAfter, HasKind, Keeps}
+use Rattle.ooo_channels.specs.Kept.{IsEventKept, IsNotice, IsSignalAfter, IsFifoAfter, IsChannelAfter, ChannelShows, HasKind, Keeps}
 
 -- an event with more room
 pub event_reserved :
@@ -53,15 +54,15 @@ notice_reserved below stamp x y calls rest after h = record {
 -- a signal with other room, or other events
 pub signal_with :
     (s t : SignalState) (c : ℕ) (below : Stamp) (x : Cycle) (calls : BoundEvent → List Call) →
-    t ≡ record s { history = t.history; changes = t.changes; rises = t.rises; falls = t.falls } → t.history.items ≡ s.history.items →
+    t ≡ record s { past = t.past; history = t.history; changes = t.changes; rises = t.rises; falls = t.falls } → t.history.items ≡ s.history.items →
     (IsNotice below x.stamp s.changes (calls (event.Changed c)) → IsNotice below x.stamp t.changes (calls (event.Changed c))) →
     (IsNotice below x.stamp s.rises (calls (event.Rise c)) → IsNotice below x.stamp t.rises (calls (event.Rise c))) →
     (IsNotice below x.stamp s.falls (calls (event.Fall c)) → IsNotice below x.stamp t.falls (calls (event.Fall c))) →
     HasSignalRoom 0 t → IsSignalAfter c below x calls s → IsSignalAfter c below x calls t
 signal_with s t c below x calls same history changes rises falls room h = record {
   cycle = record {
-    stamp = ap (λ z. z.stamp) same ∙ h.cycle.stamp;
-    channel = ap (λ z. IsSignal (record { current = z.current; requested = z.requested; changed = z.changed })) same ∙ h.cycle.channel;
+    stamp = ap (λ z. z.newest.stamp) same ∙ h.cycle.stamp;
+    channel = ap (λ z. IsSignal (signal_of z.newest)) same ∙ h.cycle.channel;
     history = history ∙ h.cycle.history;
   };
   changes = changes h.changes;
@@ -105,8 +106,9 @@ module _ (xs : List ChannelState) (kinds : List BoundEvent) (es : List EventStat
   pub more_on_channel :
       (c : ℕ) (s t : ChannelState) → c < length xs → s ≡ get_or xs c s → ((m : ℕ) → HasRoom m s → HasRoom m t) → ((k : ChannelKind) → HasKind k s → HasKind k t) → ((k : BoundEvent) → Keeps k s → Keeps k t) →
       ((c : ℕ) (below : Stamp) (x : Cycle) (calls : BoundEvent → List Call) → IsChannelAfter c below x calls s → IsChannelAfter c below x calls t) →
+      ((below : Stamp) (was : Stamp → Channel) → ChannelShows below was s → ChannelShows below was t) →
       HasMoreRoom bank (record { channels = set xs c t; kinds = kinds; events = es; below = below })
-  more_on_channel c s t lt is room kind keeps after = record {
+  more_on_channel c s t lt is room kind keeps after shows = record {
     after = λ ops h. record {
       channel_count = length-set xs c t ∙ h.channel_count;
       event_count = h.event_count;
@@ -116,8 +118,10 @@ module _ (xs : List ChannelState) (kinds : List BoundEvent) (es : List EventStat
           (λ b at. kind b.kind (subst (HasKind b.kind) (sym is) (h.channel_kinds c s b at))) (λ j ne b at. h.channel_kinds j z b at) d b at;
       channels = λ d z within. set_cases (λ j a. j < length xs → IsChannelAfter j ops.below (cycle_of ops j) (channel_calls ops) a) xs c t z lt
           (λ _. after c ops.below (cycle_of ops c) (channel_calls ops) (subst (IsChannelAfter c ops.below (cycle_of ops c) (channel_calls ops)) (sym is) (h.channels c s lt))) (λ j ne there. h.channels j z there) d (let l = length-set xs c t in omega (arith, within, l));
+      shows = λ d z within. set_cases (λ j a. j < length xs → ChannelShows ops.below (channel_before ops j) a) xs c t z lt
+          (λ _. shows ops.below (channel_before ops c) (subst (ChannelShows ops.below (channel_before ops c)) (sym is) (h.shows c s lt))) (λ j ne there. h.shows j z there) d (let l = length-set xs c t in omega (arith, within, l));
       events = h.events;
-      asked = all_kept-set xs c s t lt is keeps ops.events h.asked;
+      present = all_kept-set xs c s t lt is keeps ops.events h.present;
     };
     channel_count = length-set xs c t;
     event_count = refl;
@@ -138,9 +142,10 @@ module _ (xs : List ChannelState) (kinds : List BoundEvent) (es : List EventStat
       below = h.below;
       channel_kinds = h.channel_kinds;
       channels = h.channels;
+      shows = h.shows;
       events = λ d z own. set_cases (λ j a. slice_get ops.events j ≡ Some event.Own → IsEventKept ops.below a (own_calls ops j)) es e y z lt
           (λ own. event_reserved ops.below x y (own_calls ops e) rest after (subst (λ a. IsEventKept ops.below a (own_calls ops e)) (sym is) (h.events e x own))) (λ j ne own. h.events j z own) d own;
-      asked = h.asked;
+      present = h.present;
     };
     channel_count = refl;
     event_count = length-set es e y;

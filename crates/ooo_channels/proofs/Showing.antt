@@ -44,7 +44,7 @@ effect_in_order ops w effect.Stop h names = tt
 
 pub all_same : (ops : Operations) (below : Stamp) → AreAllSame ops (after_forgetting below ops)
 unfolding cycle_of notified_by own_calls
-all_same ops below = record { channels = λ c. refl; notices = λ k. refl; own = λ e. refl }
+all_same ops below = record { channels = λ c. refl; before = λ c at. refl; notices = λ k. refl; own = λ e. refl }
 
 channel_forgotten : (ops : Operations) (now below : Stamp) (c : ℕ) (x : Channel) (h : List Entry) → ChannelAgrees ops now c x h → ChannelAgrees (after_forgetting below ops) now c x h
 unfolding cycle_of

@@ -3,16 +3,17 @@ use Rattle.std.specs.Prelude.{◌≡◌, true, ℕ, ◌<◌, ◌≤◌, List, []
 use Rattle.ooo_time.specs.declared.stamp.Stamp.{Stamp}
 use Rattle.ooo_value.specs.declared.bound.BoundChannel.{BoundChannel}
 use Rattle.ooo_value.specs.declared.bound.BoundEvent.{BoundEvent}
+use Rattle.ooo_value.specs.declared.bound.ChannelKind.{ChannelKind}
 use Rattle.ooo_value.specs.declared.bound.BoundEvent.TheVariants as event
 use Rattle.ooo_events.specs.Events.{EventState}
 use Rattle.ooo_code.specs.declared.activation.Effect.{Effect}
 use Rattle.ooo_channels.specs.declared.channel.ChannelState.{ChannelState}
 use Rattle.ooo_channels.specs.Operations.{Operations, after_effect, is_on, is_call_on}
-use Rattle.ooo_channels.specs.Conditions.{MayApply}
+use Rattle.ooo_channels.specs.Conditions.{HasChannel, MayApply}
 use Rattle.ooo_history.specs.declared.run.Entry.{Entry}
-use Rattle.ooo_channels.specs.Cycles.{cycle_of, first_cycle, history_in}
+use Rattle.ooo_channels.specs.Cycles.{cycle_of, first_cycle, channel_before, first_shown, history_in}
 use Rattle.ooo_channels.specs.Calls.{own_calls, channel_calls, channel_of}
-use Rattle.ooo_channels.specs.Kept.{IsEventKept, IsChannelAfter, HasKind, Keeps}
+use Rattle.ooo_channels.specs.Kept.{IsEventKept, IsChannelAfter, ChannelShows, HasKind, Keeps}
 use Rattle.ooo_channels.specs.Room.{HasRoom, count}
 
 -- what a bank keeps
@@ -34,8 +35,17 @@ pub record IsBankAfter (bank : BankState) (ops : Operations) : Type 0 where
   pub below : bank.below ≡ ops.below
   pub channel_kinds : (c : ℕ) (d : ChannelState) (b : BoundChannel) → slice_get ops.channels c ≡ Some b → HasKind b.kind (slice_index_or bank.channels c d)
   pub channels : (c : ℕ) (d : ChannelState) → c < length bank.channels → IsChannelAfter c ops.below (cycle_of ops c) (channel_calls ops) (slice_index_or bank.channels c d)
+  pub shows : (c : ℕ) (d : ChannelState) → c < length bank.channels → ChannelShows ops.below (channel_before ops c) (slice_index_or bank.channels c d)
   pub events : (e : ℕ) (d : EventState) → slice_get ops.events e ≡ Some event.Own → IsEventKept ops.below (slice_index_or bank.events e d) (own_calls ops e)
-  pub asked : All (IsKeptIn bank.channels) ops.events
+  pub present : All (IsKeptIn bank.channels) ops.events
+
+-- a bank has channel c, of this kind: some operations were applied to it, which are on such a channel
+abbrev pub HasChannelIn : BankState → ℕ → ChannelKind → Type 0
+HasChannelIn bank c k = (ops : Operations) × IsBankAfter bank ops × HasChannel ops c k
+
+-- so it is by whatever operations were applied to a bank which has channel c, of this kind
+abbrev pub ForChannel : BankState → ℕ → ChannelKind → (Operations → Type 0) → Type 0
+ForChannel bank c k P = (ops : Operations) → IsBankAfter bank ops → HasChannel ops c k → P ops
 
 -- a bank has room for these effects: each channel and each event for those on it
 pub record Covers (bank : BankState) (effects : List Effect) : Type 0 where
@@ -46,6 +56,7 @@ pub record Covers (bank : BankState) (effects : List Effect) : Type 0 where
 pub record IsFirst (channels : List BoundChannel) (c : ℕ) (s : ChannelState) : Type 0 where
   pub kind : (b : BoundChannel) → slice_get channels c ≡ Some b → HasKind b.kind s
   pub first : (below : Stamp) → IsChannelAfter c below (first_cycle (slice_get channels c)) (λ k. []) s
+  pub shows : (below : Stamp) → ChannelShows below (first_shown (slice_get channels c)) s
 
 -- the first channels of a design, so many, as they start
 pub record AreFirst (channels : List BoundChannel) (count : ℕ) (made : List ChannelState) : Type 0 where

@@ -10,7 +10,7 @@ use Rattle.ooo_code.specs.declared.activation.Effect.TheVariants as effect
 use Rattle.ooo_code.specs.Channels.{Channel, IsSignal, IsFifo, first_channel, requested, put_into, taken_from, updated, is_time, available, free_slots}
 use Rattle.ooo_history.specs.declared.run.Entry.{Entry}
 use Rattle.ooo_meaning.specs.World.{no_channel, zero_stamp, next_delta, same_stamp, entries_of}
-use Rattle.ooo_channels.specs.Operations.{Operation, Operations, is_on}
+use Rattle.ooo_channels.specs.Operations.{Operation, Operations, is_on, operations_before}
 
 -- a channel within a cycle, before its update: the cycle's stamp, the channel, and its history up to the cycle
 pub record Cycle : Type 0 where
@@ -51,6 +51,10 @@ abbrev pub first_cycle : Option BoundChannel → Cycle
 first_cycle None = record { stamp = zero_stamp; channel = no_channel; history = [] }
 first_cycle (Some b) = record { stamp = zero_stamp; channel = first_channel b None None; history = [] }
 
+-- a channel on which there is no operation, in the cycle of a stamp
+abbrev pub first_shown : Option BoundChannel → Stamp → Channel
+first_shown b s = (cycle_at s (first_cycle b)).channel
+
 -- channel c in the cycle of the last operation on it
 unfoldable pub cycle_of : Operations → ℕ → Cycle
 cycle_of ops c = fold (cycle_step c) (first_cycle (slice_get ops.channels c)) ops.applied
@@ -58,6 +62,10 @@ cycle_of ops c = fold (cycle_step c) (first_cycle (slice_get ops.channels c)) op
 -- channel c within the cycle of a stamp
 abbrev pub channel_in : Stamp → Operations → ℕ → Channel
 channel_in s ops c = (cycle_at s (cycle_of ops c)).channel
+
+-- channel c within the cycle of a stamp, by the operations before that stamp alone
+abbrev pub channel_before : Operations → ℕ → Stamp → Channel
+channel_before ops c s = channel_in s (operations_before s ops) c
 
 -- the history of channel c up to the cycle of a stamp
 abbrev pub history_in : Stamp → Operations → ℕ → List Entry
@@ -86,3 +94,7 @@ values_left (IsFifo f) = available f ++ f.written
 abbrev pub IsSeenAs : Channel → Time → Value × Bool → Type 0
 IsSeenAs (IsSignal s) now seen = (seen.0 ≡ s.current) × (seen.1 ≡ is_time now s.changed)
 IsSeenAs (IsFifo f) now seen = ⊤
+
+-- what is seen of one channel at a time is seen of another
+abbrev pub ShowsAs : Time → (x y : Channel) → Type 0
+ShowsAs now x y = (seen : Value × Bool) → IsSeenAs x now seen → IsSeenAs y now seen

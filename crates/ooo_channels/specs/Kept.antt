@@ -1,5 +1,5 @@
 -- What a bank keeps of a channel and of an event.
-use Rattle.std.specs.Prelude.{◌≡◌, ℕ, ◌+◌, ◌≤◌, List, ◌++◌, length, map, take, ⊤}
+use Rattle.std.specs.Prelude.{◌≡◌, ℕ, ◌+◌, ◌≤◌, List, [], ◌∷◌, ◌++◌, length, map, take, ⊤}
 use Rattle.ooo_time.specs.declared.stamp.Stamp.{Stamp}
 use Rattle.ooo_time.specs.Stamps.{IsBefore}
 use Rattle.ooo_value.specs.declared.bound.BoundEvent.{BoundEvent}
@@ -9,7 +9,7 @@ use Rattle.ooo_value.specs.declared.bound.ChannelKind.TheVariants as channel
 use Rattle.ooo_events.specs.declared.call.Call.{Call}
 use Rattle.ooo_events.specs.Calls.{Follows}
 use Rattle.ooo_events.specs.Events.{EventState, IsEventAfter, Remembers}
-use Rattle.ooo_code.specs.Channels.{Signal, Fifo, IsSignal, IsFifo, available}
+use Rattle.ooo_code.specs.Channels.{Channel, Fifo, IsSignal, IsFifo, available}
 use Rattle.ooo_channels.specs.declared.notices.Notice.{Notice}
 use Rattle.ooo_channels.specs.declared.notices.Notice.TheVariants as notice
 use Rattle.ooo_channels.specs.declared.signal.SignalState.{SignalState}
@@ -20,6 +20,7 @@ use Rattle.ooo_channels.specs.Operations.{Operation}
 use Rattle.ooo_channels.specs.Cycles.{Cycle, cycle_after}
 use Rattle.ooo_channels.specs.Calls.{renewals}
 use Rattle.ooo_channels.specs.Entries.{took_entry}
+use Rattle.ooo_channels.specs.Versions.{signal_of, AreVersionsSince}
 use Rattle.ooo_channels.specs.Room.{HasSignalRoom, HasFifoRoom}
 
 -- an event on which these calls were made, and which forgot no firing from a stamp on
@@ -27,15 +28,15 @@ pub record IsEventKept (below : Stamp) (event : EventState) (calls : List Call) 
   pub after : IsEventAfter event calls
   pub remembers : (s : Stamp) → ¬ IsBefore s below → Remembers event s
 
--- an event of a channel on which these calls were made; where nobody can ask for it, nothing is said
+-- an event of a channel on which these calls were made; of one that the design hasn't nothing is said
 abbrev pub IsNoticeKept : (below : Stamp) → Notice → List Call → Type 0
 IsNoticeKept below (notice.Kept e) calls = IsEventKept below e calls
-IsNoticeKept below notice.Unasked calls = ⊤
+IsNoticeKept below notice.Absent calls = ⊤
 
 -- no call on an event of a channel is later than a stamp
 abbrev pub IsNoticeBy : Stamp → Notice → Type 0
 IsNoticeBy stamp (notice.Kept e) = Follows e.last stamp
-IsNoticeBy stamp notice.Unasked = ⊤
+IsNoticeBy stamp notice.Absent = ⊤
 
 -- an event of a channel, the last call on which isn't later than the channel's cycle
 pub record IsNotice (below stamp : Stamp) (event : Notice) (calls : List Call) : Type 0 where
@@ -43,19 +44,24 @@ pub record IsNotice (below stamp : Stamp) (event : Notice) (calls : List Call) :
   pub by : IsNoticeBy stamp event
 
 -- an event of a channel is kept
-abbrev pub IsAsked : Notice → Type 0
-IsAsked (notice.Kept e) = ⊤
-IsAsked notice.Unasked = ⊥
+abbrev pub IsPresent : Notice → Type 0
+IsPresent (notice.Kept e) = ⊤
+IsPresent notice.Absent = ⊥
 
--- the signal that is kept
-abbrev pub signal_of : SignalState → Signal
-signal_of s = record { current = s.current; requested = s.requested; changed = s.changed }
-
--- what is kept of a signal is the signal in its cycle
+-- the newest version of a signal is the signal in its cycle
 pub record IsSignalIn (s : SignalState) (x : Cycle) : Type 0 where
-  pub stamp : s.stamp ≡ x.stamp
-  pub channel : IsSignal (signal_of s) ≡ x.channel
+  pub stamp : s.newest.stamp ≡ x.stamp
+  pub channel : IsSignal (signal_of s.newest) ≡ x.channel
   pub history : s.history.items ≡ x.history
+
+-- what was seen of a signal, stamp by stamp, is seen of what is kept of it at each stamp that isn't before this one
+abbrev pub SignalShows : Stamp → (Stamp → Channel) → SignalState → Type 0
+SignalShows below was s = AreVersionsSince below was (s.past.items ++ s.newest ∷ [])
+
+-- the same of a channel; of a fifo it says nothing
+abbrev pub ChannelShows : Stamp → (Stamp → Channel) → ChannelState → Type 0
+ChannelShows below was (state.Signal s) = SignalShows below was s
+ChannelShows below was (state.Fifo f) = ⊤
 
 -- what is kept of a fifo is the fifo in its cycle: its values in one queue, and what was read in the cycle in the history
 pub record IsFifoIn (s : FifoState) (x : Cycle) : Type 0 where
@@ -90,6 +96,14 @@ abbrev pub IsChannelAfter : (c : ℕ) → (below : Stamp) → Cycle → (BoundEv
 IsChannelAfter c below x calls (state.Signal s) = IsSignalAfter c below x calls s
 IsChannelAfter c below x calls (state.Fifo f) = IsFifoAfter c below x calls f
 
+-- a channel is in some cycle
+abbrev pub HasCycle : ChannelState → Type 0
+HasCycle s = (c : ℕ) × (below : Stamp) × (x : Cycle) × (calls : BoundEvent → List Call) × IsChannelAfter c below x calls s
+
+-- so it is by whatever cycle a channel is in
+abbrev pub ForCycle : ChannelState → (Cycle → Type 0) → Type 0
+ForCycle s P = (c : ℕ) (below : Stamp) (x : Cycle) (calls : BoundEvent → List Call) → IsChannelAfter c below x calls s → P x
+
 -- channel c after one more operation on it, with its events
 abbrev pub IsChannelNext : (c : ℕ) → (below : Stamp) → Cycle → (BoundEvent → List Call) → Operation → ChannelState → Type 0
 IsChannelNext c below x calls o s =
@@ -103,9 +117,9 @@ HasKind _ _ = ⊥
 
 -- the events of a signal, no call on which is later than its cycle
 pub record AreSignalEventsBy (s : SignalState) : Type 0 where
-  pub changes : IsNoticeBy s.stamp s.changes
-  pub rises : IsNoticeBy s.stamp s.rises
-  pub falls : IsNoticeBy s.stamp s.falls
+  pub changes : IsNoticeBy s.newest.stamp s.changes
+  pub rises : IsNoticeBy s.newest.stamp s.rises
+  pub falls : IsNoticeBy s.newest.stamp s.falls
 
 -- the events of a fifo, no call on which is later than its cycle
 pub record AreFifoEventsBy (s : FifoState) : Type 0 where
@@ -132,15 +146,15 @@ HasEvent k (state.Fifo f) = IsFifoEvent k
 
 -- a signal keeps an event, if it is one of a signal
 abbrev pub SignalKeeps : BoundEvent → SignalState → Type 0
-SignalKeeps (event.Changed c) s = IsAsked s.changes
-SignalKeeps (event.Rise c) s = IsAsked s.rises
-SignalKeeps (event.Fall c) s = IsAsked s.falls
+SignalKeeps (event.Changed c) s = IsPresent s.changes
+SignalKeeps (event.Rise c) s = IsPresent s.rises
+SignalKeeps (event.Fall c) s = IsPresent s.falls
 SignalKeeps _ s = ⊤
 
 -- a fifo keeps an event, if it is one of a fifo
 abbrev pub FifoKeeps : BoundEvent → FifoState → Type 0
-FifoKeeps (event.Written c) s = IsAsked s.puts
-FifoKeeps (event.Taken c) s = IsAsked s.takes
+FifoKeeps (event.Written c) s = IsPresent s.puts
+FifoKeeps (event.Taken c) s = IsPresent s.takes
 FifoKeeps _ s = ⊤
 
 -- a channel keeps an event, if it has such an event

@@ -3,6 +3,7 @@ pub mod Entries
 pub mod Cycles
 pub mod Calls
 pub mod Conditions
+pub mod Versions
 pub mod Room
 pub mod Kept
 pub mod Bank

@@ -1,5 +1,5 @@
 -- What is applied to a bank: effects, each with its stamp.
-use Rattle.std.specs.Prelude.{ℕ, ◌==◌, List, [], ◌∷◌, ◌++◌, fold, Bool, false, if◌then◌else◌}
+use Rattle.std.specs.Prelude.{ℕ, ◌==◌, List, [], ◌∷◌, ◌++◌, fold, filter, Bool, false, if◌then◌else◌}
 use Rattle.ooo_time.specs.declared.stamp.Stamp.{Stamp}
 use Rattle.ooo_time.specs.Stamps.{is_before}
 use Rattle.ooo_value.specs.declared.bound.BoundChannel.{BoundChannel}
@@ -13,8 +13,8 @@ pub record Operation : Type 0 where
   pub at : Stamp
   pub effect : Effect
 
--- the channels and events of a bank, what was applied to them, in that order, and the stamp before which the firings of
--- events are forgotten
+-- the channels and events of a bank, what was applied to them, in that order, and the stamp before which what was seen of
+-- signals and the firings of events are forgotten
 pub record Operations : Type 0 where
   pub channels : List BoundChannel
   pub events : List BoundEvent
@@ -33,11 +33,15 @@ after_effect at ops f = record ops { applied = ops.applied ++ record { at = at; 
 abbrev pub after_effects : Stamp → Operations → List Effect → Operations
 after_effects at ops fs = fold (after_effect at) ops fs
 
+-- those of the operations that were applied before a stamp
+abbrev pub operations_before : Stamp → Operations → Operations
+operations_before at ops = record ops { applied = filter (λ o. is_before o.at at) ops.applied }
+
 -- the later of two stamps
 abbrev pub later_of : Stamp → Stamp → Stamp
 later_of s t = if is_before s t then t else s
 
--- once the firings before a stamp are forgotten
+-- once what was before a stamp is forgotten
 abbrev pub after_forgetting : Stamp → Operations → Operations
 after_forgetting below ops = record ops { below = later_of ops.below below }
 

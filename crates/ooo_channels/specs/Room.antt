@@ -9,13 +9,14 @@ use Rattle.ooo_channels.specs.declared.fifo.FifoState.{FifoState}
 use Rattle.ooo_channels.specs.declared.channel.ChannelState.{ChannelState}
 use Rattle.ooo_channels.specs.declared.channel.ChannelState.TheVariants as state
 
--- an event of a channel has room for n calls; where nobody can ask for it, it needs none
+-- an event of a channel has room for n calls; one that the design hasn't needs none
 abbrev pub HasNoticeRoom : ℕ → Notice → Type 0
 HasNoticeRoom n (notice.Kept e) = n ≤ e.spare
-HasNoticeRoom n notice.Unasked = ⊤
+HasNoticeRoom n notice.Absent = ⊤
 
--- room for n requests: in the history, and in each of its events
+-- room for n requests: for the versions, in the history, and in each of its events
 pub record HasSignalRoom (n : ℕ) (s : SignalState) : Type 0 where
+  pub past : deque_len s.past + n ≤ deque_capacity s.past
   pub history : vec_len s.history + n ≤ vec_capacity s.history
   pub changes : HasNoticeRoom n s.changes
   pub rises : HasNoticeRoom n s.rises

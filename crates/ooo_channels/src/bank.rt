@@ -5,14 +5,14 @@ ghost use Rattle.ooo_code.specs.declared.activation.Effect.{Effect as EffectSpec
 ghost use Rattle.ooo_value.specs.declared.bound.BoundChannel.{BoundChannel as ChannelSpec};
 ghost use Rattle.ooo_value.specs.declared.bound.ChannelKind.TheVariants as kind;
 ghost use Rattle.ooo_channels.specs.Operations.{Operations, no_operations, after_effects, after_forgetting};
-ghost use Rattle.ooo_channels.specs.Cycles.{channel_in, cycle_of, readable, writable, values_left, IsSeenAs};
+ghost use Rattle.ooo_channels.specs.Cycles.{channel_in, channel_before, cycle_of, readable, writable, values_left, IsSeenAs};
 ghost use Rattle.ooo_channels.specs.Calls.{FiresAt, channel_of};
 ghost use Rattle.ooo_code.specs.declared.activation.Effect.TheVariants as effect;
 ghost use Rattle.ooo_value.specs.declared.bound.BoundEvent.{BoundEvent as EventSpec};
 ghost use Rattle.ooo_value.specs.declared.bound.BoundEvent.TheVariants as event;
-ghost use Rattle.ooo_channels.specs.Conditions.{HasChannel, HasEventAt, Names, MayApply, MayApplyAll, IsCountableStamp};
+ghost use Rattle.ooo_channels.specs.Conditions.{HasChannel, ChannelIsBy, HasEventAt, Names, MayApply, MayApplyAll, IsCountableStamp};
 ghost use Rattle.ooo_channels.specs.Apart.{LeavesOthers, AreAllSame};
-ghost use Rattle.ooo_channels.specs.Bank.{IsBankAfter, Covers, Applies, HasMoreRoom, HasRoomFor, IsKeptIn, AreFirst, AreNew, AreHistories};
+ghost use Rattle.ooo_channels.specs.Bank.{IsBankAfter, HasChannelIn, ForChannel, Covers, Applies, HasMoreRoom, HasRoomFor, IsKeptIn, AreFirst, AreNew, AreHistories};
 
 use crate::channel::ChannelState;
 use crate::notices::make;
@@ -58,7 +58,7 @@ impl Bank {
             IfOk result (λ bank. IsBankAfter bank ops) }
     {
         let mut channels = first_channels(alloc, design.channels.as_slice())?;
-        ask_all(&mut channels, alloc, design.events.as_slice());
+        keep_all(&mut channels, alloc, design.events.as_slice());
         let kinds = Vec::from_slice(alloc, design.events.as_slice())?;
         let events = first_events(alloc, kinds.len())?;
         Ok(Bank {
@@ -70,29 +70,37 @@ impl Bank {
     }
 
     /// What is seen of a signal in the cycle of a stamp: its value, and whether that changed in the delta
-    /// cycle immediately before, at the same time (IEEE 1666-2011, 6.4). It takes no memory.
+    /// cycle immediately before, at the same time (IEEE 1666-2011, 6.4). It takes no memory, one step where
+    /// no later request was applied, and else a number of steps that is logarithmic in the versions that are
+    /// kept of the signal.
     pub fn signal(&self, id: u32, at: Stamp) -> (Value, bool)
-        requires { (ops : Operations) × IsBankAfter self.now ops × HasChannel ops id kind.Signal }
-        ensures { (ops : Operations) → IsBankAfter self.now ops → HasChannel ops id kind.Signal →
-            IsSeenAs (channel_in at ops id) at.time result }
+        requires { HasChannelIn self.now id kind.Signal }
+
+        // At any stamp that isn't forgotten, the operations before that stamp say it.
+        ensures before { ForChannel self.now id kind.Signal (λ ops. ¬ IsBefore at ops.below →
+            IsSeenAs (channel_before ops id at) at.time result) }
+
+        // Where no request was applied later, all operations say it.
+        ensures now { ForChannel self.now id kind.Signal (λ ops. ChannelIsBy ops id at →
+            IsSeenAs (channel_in at ops id) at.time result) }
     {
         self.channels[id as usize].seen(at)
     }
 
     /// How many values of a fifo may be read in the cycle of a stamp (6.23). It takes no memory.
     pub fn available(&self, id: u32, at: Stamp) -> u32
-        requires { (ops : Operations) × IsBankAfter self.now ops × HasChannel ops id kind.Fifo }
-        ensures { (ops : Operations) → IsBankAfter self.now ops → HasChannel ops id kind.Fifo →
-            result ≡ length (readable (channel_in at ops id)) }
+        requires { HasChannelIn self.now id kind.Fifo }
+        ensures { ForChannel self.now id kind.Fifo (λ ops.
+            result ≡ length (readable (channel_in at ops id))) }
     {
         self.channels[id as usize].available(at)
     }
 
     /// How many values a fifo takes in the cycle of a stamp (6.23). It takes no memory.
     pub fn free(&self, id: u32, at: Stamp) -> u32
-        requires { (ops : Operations) × IsBankAfter self.now ops × HasChannel ops id kind.Fifo }
-        ensures { (ops : Operations) → IsBankAfter self.now ops → HasChannel ops id kind.Fifo →
-            result ≡ writable (channel_in at ops id) }
+        requires { HasChannelIn self.now id kind.Fifo }
+        ensures { ForChannel self.now id kind.Fifo (λ ops.
+            result ≡ writable (channel_in at ops id)) }
     {
         self.channels[id as usize].free(at)
     }
@@ -102,8 +110,8 @@ impl Bank {
     pub fn value(&self, id: u32, n: u32) -> Value
         requires { (ops : Operations) × IsBankAfter self.now ops × HasChannel ops id kind.Fifo
             × (n < length (values_left (cycle_of ops id).channel)) }
-        ensures left { (ops : Operations) → IsBankAfter self.now ops → HasChannel ops id kind.Fifo →
-            slice_get (values_left (cycle_of ops id).channel) n ≡ Some result }
+        ensures left { ForChannel self.now id kind.Fifo (λ ops.
+            slice_get (values_left (cycle_of ops id).channel) n ≡ Some result) }
         ensures readable { (ops : Operations) (at : Stamp) → IsBankAfter self.now ops →
             HasChannel ops id kind.Fifo → n < length (readable (channel_in at ops id)) →
             slice_get (readable (channel_in at ops id)) n ≡ Some result }
@@ -183,8 +191,8 @@ impl Bank {
         }
     }
 
-    /// Forgets the firings of all events before a stamp, so that they take no room later. It takes no
-    /// memory.
+    /// Forgets the firings of all events before a stamp, and of each signal the versions of which nothing is
+    /// seen from that stamp on, so that they take no room later. It takes no memory.
     pub fn forget(&mut self, below: Stamp)
         ensures after { (ops : Operations) → IsBankAfter self.old ops →
             IsBankAfter self.new (after_forgetting below ops) }
@@ -322,18 +330,18 @@ fn first_channels(alloc: Global, channels: &[BoundChannel]) -> Result<Vec<Channe
 }
 
 /// Lets the channels of a design keep those of their events that the design has.
-fn ask_all(channels: &mut Vec<ChannelState>, alloc: Global, events: &[BoundEvent])
+fn keep_all(channels: &mut Vec<ChannelState>, alloc: Global, events: &[BoundEvent])
     ensures first { (design : List ChannelSpec) (count : ℕ) →
         AreFirst design count channels.old.items → AreFirst design count channels.new.items }
-    ensures asked { All (IsKeptIn channels.new.items) events.now }
+    ensures present { All (IsKeptIn channels.new.items) events.now }
 {
     for kind in events {
-        ask(channels, alloc, *kind);
+        keep(channels, alloc, *kind);
     }
 }
 
 /// Lets the channel of an event keep it, if the event is one of a channel that is there.
-fn ask(channels: &mut Vec<ChannelState>, alloc: Global, kind: BoundEvent)
+fn keep(channels: &mut Vec<ChannelState>, alloc: Global, kind: BoundEvent)
     ensures first { (design : List ChannelSpec) (count : ℕ) →
         AreFirst design count channels.old.items → AreFirst design count channels.new.items }
     ensures kept { IsKeptIn channels.new.items kind }
@@ -342,7 +350,7 @@ fn ask(channels: &mut Vec<ChannelState>, alloc: Global, kind: BoundEvent)
 {
     if let Some(c) = channel(kind) {
         if (c as usize) < channels.len() {
-            channels[c as usize].ask(alloc, kind);
+            channels[c as usize].keep(alloc, kind);
         }
     }
 }

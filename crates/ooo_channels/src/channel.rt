@@ -1,12 +1,15 @@
 ghost use Rattle.std.specs.Prelude.{◌≡◌, ◌+◌, ◌++◌, ◌≤◌, ◌<◌, ℕ, List, [], length, Some, OnOk, IfOk, slice_get};
 ghost use Rattle.ooo_value.specs.declared.bound.ChannelKind.{ChannelKind as KindSpec};
 ghost use Rattle.ooo_time.specs.Stamps.{IsBefore};
+ghost use Rattle.ooo_time.specs.declared.stamp.Stamp.{Stamp as StampSpec};
+ghost use Rattle.ooo_code.specs.Channels.{Channel};
 ghost use Rattle.ooo_events.specs.declared.call.Call.{Call as CallSpec};
 ghost use Rattle.ooo_value.specs.declared.bound.BoundEvent.{BoundEvent as EventSpec};
 ghost use Rattle.ooo_value.specs.declared.bound.ChannelKind.TheVariants as kind;
 ghost use Rattle.ooo_code.specs.declared.activation.Effect.TheVariants as effect;
 ghost use Rattle.ooo_channels.specs.Conditions.{IsCountableStamp};
-ghost use Rattle.ooo_channels.specs.Cycles.{Cycle, cycle_at, cycle_after, first_cycle, readable, writable, values_left, IsSeenAs};
+ghost use Rattle.ooo_channels.specs.Operations.{Operation};
+ghost use Rattle.ooo_channels.specs.Cycles.{Cycle, cycle_at, cycle_after, first_cycle, first_shown, readable, writable, values_left, IsSeenAs};
 ghost use Rattle.ooo_events.specs.Firings.{Fires, IsFirstAfter};
 ghost use Rattle.ooo_channels.specs.Calls.{channel_of};
 
@@ -25,7 +28,8 @@ pub enum ChannelState {
 }
 
 impl ChannelState {
-    ghost use Rattle.ooo_channels.specs.Kept.{HasKind, HasEvent, IsChannelAfter, IsChannelNext, Keeps};
+    ghost use Rattle.ooo_channels.specs.Kept.{HasKind, HasEvent, IsChannelAfter, IsChannelNext, ChannelShows, HasCycle, ForCycle, Keeps};
+    ghost use Rattle.ooo_channels.specs.Versions.{IsContinued};
     ghost use Rattle.ooo_channels.specs.Room.{HasRoom};
 
     /// A channel as it starts, which keeps none of its events. It takes no memory.
@@ -33,6 +37,8 @@ impl ChannelState {
         ensures kind { HasKind channel.kind result }
         ensures first { (c : ℕ) (below : Stamp) →
             IsChannelAfter c below (first_cycle (Some channel)) (λ k. []) result }
+        ensures shows { (below : Stamp) →
+            ChannelShows below (first_shown (Some channel)) result }
     {
         match channel.kind {
             ChannelKind::Signal => ChannelState::Signal(SignalState::new(alloc, channel.value)),
@@ -41,17 +47,19 @@ impl ChannelState {
     }
 
     /// Keeps an event of the channel, on which there was no operation yet. It takes no memory.
-    pub fn ask(&mut self, alloc: Global, kind: BoundEvent)
+    pub fn keep(&mut self, alloc: Global, kind: BoundEvent)
         ensures kind { (k : KindSpec) → HasKind k self.old → HasKind k self.new }
         ensures kept { Keeps kind self.new }
         ensures keeps { (k : EventSpec) → Keeps k self.old → Keeps k self.new }
         ensures after { (c : ℕ) (below : Stamp) (x : Cycle) →
             IsChannelAfter c below x (λ k. []) self.old →
             IsChannelAfter c below x (λ k. []) self.new }
+        ensures shows { (below : Stamp) (was : StampSpec → Channel) →
+            ChannelShows below was self.old → ChannelShows below was self.new }
     {
         match self {
-            ChannelState::Signal(signal) => signal.ask(alloc, kind),
-            ChannelState::Fifo(fifo) => fifo.ask(alloc, kind),
+            ChannelState::Signal(signal) => signal.keep(alloc, kind),
+            ChannelState::Fifo(fifo) => fifo.keep(alloc, kind),
         }
     }
 
@@ -67,6 +75,8 @@ impl ChannelState {
         ensures kind { (k : KindSpec) → HasKind k self.old → HasKind k self.new }
         ensures after { (c : ℕ) (below : Stamp) (x : Cycle) (calls : EventSpec → List CallSpec) →
             IsChannelAfter c below x calls self.old → IsChannelAfter c below x calls self.new }
+        ensures shows { (below : Stamp) (was : StampSpec → Channel) →
+            ChannelShows below was self.old → ChannelShows below was self.new }
         ensures keeps { (k : EventSpec) → Keeps k self.old → Keeps k self.new }
     {
         match self {
@@ -81,11 +91,8 @@ impl ChannelState {
     ///
     /// Only where memory runs out.
     pub fn into_history(self, at: Stamp) -> Result<Vec<Entry>, AllocError>
-        requires { (c : ℕ) × (below : Stamp) × (x : Cycle) × (calls : EventSpec → List CallSpec)
-            × IsChannelAfter c below x calls self }
-        ensures { IfOk result (λ h. (c : ℕ) (below : Stamp) (x : Cycle)
-            (calls : EventSpec → List CallSpec) → IsChannelAfter c below x calls self →
-            h.items ≡ (cycle_at at x).history) }
+        requires { HasCycle self }
+        ensures { IfOk result (λ h. ForCycle self (λ x. h.items ≡ (cycle_at at x).history)) }
     {
         match self {
             ChannelState::Signal(signal) => signal.into_history(at),
@@ -99,9 +106,7 @@ impl ChannelState {
         requires within { (c : ℕ) × (below : Stamp) × (x : Cycle)
             × (calls : EventSpec → List CallSpec)
             × IsChannelAfter c below x calls self.now × (n < length (values_left x.channel)) }
-        ensures { (c : ℕ) (below : Stamp) (x : Cycle) (calls : EventSpec → List CallSpec) →
-            IsChannelAfter c below x calls self.now →
-            slice_get (values_left x.channel) n ≡ Some result }
+        ensures { ForCycle self.now (λ x. slice_get (values_left x.channel) n ≡ Some result) }
     {
         match self {
             ChannelState::Signal(_) => Value::Bool(false),
@@ -121,6 +126,11 @@ impl ChannelState {
             IsChannelAfter c below x calls self.old → ¬ IsBefore at x.stamp →
             IsChannelNext c below x calls
             (record { at = at; effect = effect.Request c value }) self.new }
+        ensures shows { (c : ℕ) (x : Cycle) (calls : EventSpec → List CallSpec)
+            (was next : StampSpec → Channel) →
+            let o : Operation = record { at = at; effect = effect.Request c value } in
+            IsChannelAfter c below x calls self.old → IsContinued at (cycle_after x o) was next →
+            ChannelShows below was self.old → ChannelShows below next self.new }
         ensures keeps { (k : EventSpec) → Keeps k self.old → Keeps k self.new }
         ensures room { (n : ℕ) → HasRoom (n + 1) self.old → HasRoom n self.new }
     {
@@ -178,9 +188,11 @@ impl ChannelState {
     /// What is seen of a signal in the cycle of a stamp.
     pub fn seen(&self, at: Stamp) -> (Value, bool)
         requires { HasKind kind.Signal self.now }
-        ensures { (c : ℕ) (below : Stamp) (x : Cycle) (calls : EventSpec → List CallSpec) →
-            IsChannelAfter c below x calls self.now →
-            IsSeenAs (cycle_at at x).channel at.time result }
+        ensures newest { ForCycle self.now (λ x. ¬ IsBefore at x.stamp →
+            IsSeenAs (cycle_at at x).channel at.time result) }
+        ensures since { (below : Stamp) (was : StampSpec → Channel) →
+            ChannelShows below was self.now → ¬ IsBefore at below →
+            IsSeenAs (was at) at.time result }
     {
         match self {
             ChannelState::Signal(signal) => signal.seen(at),
@@ -191,12 +203,8 @@ impl ChannelState {
     /// How many values of a fifo may be read in the cycle of a stamp.
     pub fn available(&self, at: Stamp) -> u32
         requires kind { HasKind kind.Fifo self.now }
-        requires fifo { (c : ℕ) × (below : Stamp) × (x : Cycle)
-            × (calls : EventSpec → List CallSpec)
-            × IsChannelAfter c below x calls self.now }
-        ensures { (c : ℕ) (below : Stamp) (x : Cycle) (calls : EventSpec → List CallSpec) →
-            IsChannelAfter c below x calls self.now →
-            result ≡ length (readable (cycle_at at x).channel) }
+        requires fifo { HasCycle self.now }
+        ensures { ForCycle self.now (λ x. result ≡ length (readable (cycle_at at x).channel)) }
     {
         match self {
             ChannelState::Signal(_) => 0,
@@ -207,11 +215,8 @@ impl ChannelState {
     /// How many values a fifo takes in the cycle of a stamp.
     pub fn free(&self, at: Stamp) -> u32
         requires kind { HasKind kind.Fifo self.now }
-        requires fifo { (c : ℕ) × (below : Stamp) × (x : Cycle)
-            × (calls : EventSpec → List CallSpec)
-            × IsChannelAfter c below x calls self.now }
-        ensures { (c : ℕ) (below : Stamp) (x : Cycle) (calls : EventSpec → List CallSpec) →
-            IsChannelAfter c below x calls self.now → result ≡ writable (cycle_at at x).channel }
+        requires fifo { HasCycle self.now }
+        ensures { ForCycle self.now (λ x. result ≡ writable (cycle_at at x).channel) }
     {
         match self {
             ChannelState::Signal(_) => 0,

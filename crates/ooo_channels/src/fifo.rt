@@ -52,8 +52,8 @@ impl FifoState {
         ensures counts { (result.read ≡ 0) × (result.written ≡ 0) }
         ensures stamp { result.stamp ≡ zero_stamp }
         ensures history { result.history.items ≡ [] }
-        ensures puts { result.puts ≡ notice.Unasked }
-        ensures takes { result.takes ≡ notice.Unasked }
+        ensures puts { result.puts ≡ notice.Absent }
+        ensures takes { result.takes ≡ notice.Absent }
         ensures room { HasFifoRoom 0 result }
     {
         FifoState {
@@ -63,13 +63,13 @@ impl FifoState {
             read: 0,
             written: 0,
             history: Vec::new(alloc),
-            puts: Notice::Unasked,
-            takes: Notice::Unasked,
+            puts: Notice::Absent,
+            takes: Notice::Absent,
         }
     }
 
     /// Keeps an event of the fifo, on which there was no operation yet. It takes no memory.
-    pub fn ask(&mut self, alloc: Global, kind: BoundEvent)
+    pub fn keep(&mut self, alloc: Global, kind: BoundEvent)
         ensures kept { FifoKeeps kind self.new }
         ensures keeps { (k : EventSpec) → FifoKeeps k self.old → FifoKeeps k self.new }
         ensures after { (c : ℕ) (below : Stamp) (x : Cycle) →

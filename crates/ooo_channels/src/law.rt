@@ -22,8 +22,8 @@ ghost use Rattle.ooo_channels.specs.Conditions.{HasEventAt, MayApplyAll, IsInOrd
 ghost use Rattle.ooo_channels.specs.Apart.{SameOn, IsChannelSame, LeavesOthers};
 ghost use Rattle.ooo_channels.specs.Agreement.{Agrees, IsTimely, IsShown, IsNextStamp, GoesOn, shown_up_to};
 
-/// The operations on a channel alone determine what is seen of it, its history and when its events fire, whatever is done
-/// to other channels and events.
+/// The operations on a channel alone determine what is seen of it, also by those before any stamp, its history and when its
+/// events fire, whatever is done to other channels and events.
 pub fn apart()
     ensures { (ops others : Operations) (c : ℕ) → SameOn c ops others → IsChannelSame c ops others }
 {}

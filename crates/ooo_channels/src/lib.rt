@@ -9,5 +9,6 @@ mod fifo;
 pub mod law;
 mod notices;
 mod signal;
+mod version;
 
 pub use bank::Bank;

@@ -8,13 +8,13 @@ use ooo_events::{Call, Event};
 use ooo_time::{Stamp, Time};
 use std::alloc::{AllocError, Global};
 
-/// An event of a channel, where the design has it; else nobody can ask for it, and nothing is kept.
+/// An event of a channel, which is kept where the design has it.
 #[derive(Debug, Drop)]
 pub enum Notice {
     /// An event that the design has.
     Kept(Event),
     /// An event that it hasn't.
-    Unasked,
+    Absent,
 }
 
 impl Notice {
@@ -24,12 +24,12 @@ impl Notice {
     ghost use Rattle.ooo_events.specs.Firings.{Fires, IsFirstAfter};
     ghost use Rattle.ooo_channels.specs.Calls.{renewal};
     ghost use Rattle.ooo_channels.specs.Conditions.{IsCountableStamp};
-    ghost use Rattle.ooo_channels.specs.Kept.{IsNoticeKept, IsNoticeBy, IsNotice, IsAsked};
+    ghost use Rattle.ooo_channels.specs.Kept.{IsNoticeKept, IsNoticeBy, IsNotice, IsPresent};
     ghost use Rattle.ooo_channels.specs.Room.{HasNoticeRoom};
 
     /// An event on which no call was made, with no room for any, which is kept from now on. It takes no memory.
     pub fn new(alloc: Global) -> Notice
-        ensures asked { IsAsked result }
+        ensures present { IsPresent result }
         ensures first { (below stamp : Stamp) → IsNotice below stamp result [] }
         ensures room { HasNoticeRoom 0 result }
     {
@@ -47,11 +47,11 @@ impl Notice {
         ensures more { (m : ℕ) → HasNoticeRoom m self.old → HasNoticeRoom m self.new }
         ensures after { (below stamp : Stamp) (calls : List CallSpec) →
             IsNotice below stamp self.old calls → IsNotice below stamp self.new calls }
-        ensures asked { IsAsked self.old → IsAsked self.new }
+        ensures present { IsPresent self.old → IsPresent self.new }
     {
         match self {
             Notice::Kept(event) => event.reserve(n),
-            Notice::Unasked => Ok(()),
+            Notice::Absent => Ok(()),
         }
     }
 
@@ -66,23 +66,23 @@ impl Notice {
             IsNoticeKept below self.new (calls ++ renewal at notified ∷ []) }
         ensures by { IsNoticeBy at self.new }
         ensures room { (n : ℕ) → HasNoticeRoom (n + 1) self.old → HasNoticeRoom n self.new }
-        ensures asked { IsAsked self.old → IsAsked self.new }
+        ensures present { IsPresent self.old → IsPresent self.new }
     {
         match self {
             Notice::Kept(event) => renew(event, at, notified, below),
-            Notice::Unasked => {}
+            Notice::Absent => {}
         }
     }
 
     /// The first stamp after `since` at which the event fires.
     pub fn first_after(&self, since: Stamp) -> Option<Stamp>
-        requires { IsAsked self.now }
+        requires { IsPresent self.now }
         ensures { (below : Stamp) (calls : List CallSpec) → IsNoticeKept below self.now calls →
             ¬ IsBefore since below → IsFirstAfter (Fires calls) since result }
     {
         match self {
             Notice::Kept(event) => event.first_after(since),
-            Notice::Unasked => None,
+            Notice::Absent => None,
         }
     }
 }

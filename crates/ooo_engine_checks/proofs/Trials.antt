@@ -18,7 +18,7 @@ use Rattle.ooo_events.specs.Calls.{Follows, last_stamp, stamp_of}
 use Rattle.ooo_code.specs.declared.activation.Effect.{Effect}
 use Rattle.ooo_code.specs.declared.activation.Effect.TheVariants as effect
 use Rattle.ooo_meaning.specs.World.{entries_of, zero_stamp}
-use Rattle.ooo_channels.specs.Operations.{Operation, Operations, no_operations, after_effect, is_on, is_call_on}
+use Rattle.ooo_channels.specs.Operations.{Operation, Operations, no_operations, after_effect, after_forgetting, is_on, is_call_on}
 use Rattle.ooo_channels.specs.Cycles.{Cycle, cycle_of, cycle_at, cycle_after, cycle_step, later_channel, first_cycle, channel_in, readable, writable}
 use Rattle.ooo_channels.specs.Calls.{own_calls, own_call}
 use Rattle.ooo_channels.specs.Conditions.{HasChannel, HasEventAt, ChannelIsBy, Names, IsInOrder, FindsPlace, MayApply}
@@ -41,6 +41,20 @@ begun bank channels events b is are after = record {
   events = are;
   by = subst (λ cs. ¬ IsBefore zero_stamp (first_cycle (slice_get cs 0)).stamp) (sym is) (IsBefore-irrefl zero_stamp);
   own_by = λ s f. absurd cc;
+}
+
+-- a trial whose bank forgets
+pub forgotten : (k : ChannelKind) (bank new : BankState) (last below : Stamp) (t : IsTrial k bank last) → IsBankAfter new (after_forgetting below t.ops) → IsTrial k new last
+unfolding cycle_of own_calls
+forgotten k bank new last below t after = record {
+  ops = after_forgetting below t.ops;
+  after = after;
+  channel = t.channel;
+  channels = t.channels;
+  is = t.is;
+  events = t.events;
+  by = t.by;
+  own_by = t.own_by;
 }
 
 -- what follows from an Ok's fact

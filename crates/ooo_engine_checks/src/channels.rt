@@ -76,6 +76,14 @@ fn act(
     Ok(())
 }
 
+/// Forgets what was before a stamp.
+fn forget(bank: &mut Bank, kind: ChannelKind, last: Stamp, below: Stamp)
+    requires { IsTrial kind bank.old last }
+    ensures { IsTrial kind bank.new last }
+{
+    bank.forget(below);
+}
+
 /// A stamp whose notifications can be counted.
 fn is_countable(now: Stamp) -> bool
     ensures { IsTrue result → IsCountableStamp now }
@@ -118,10 +126,11 @@ fn has_place(bank: &Bank, kind: ChannelKind, last: Stamp, now: Stamp, effect: Ef
     }
 }
 
-/// An effect, or a question with its answer.
+/// An effect, a question with its answer, or that what was before is forgotten.
 #[derive(Clone, Copy)]
 enum Step {
     Does(Effect),
+    Forgets,
     Sees(Value, bool),
     Available(u32),
     Free(u32),
@@ -129,7 +138,7 @@ enum Step {
     First(u32, Option<Stamp>),
 }
 
-use Step::{Available, Does, First, Free, Sees};
+use Step::{Available, Does, First, Forgets, Free, Sees};
 
 /// Whether a bank of a signal answers so at a stamp.
 fn signal_answers(bank: &Bank, last: Stamp, now: Stamp, question: Step) -> bool
@@ -182,6 +191,10 @@ impl Trial {
         requires { IsTrial self.old.kind self.old.bank self.old.last }
         ensures { OnOk result (IsTrial self.new.kind self.new.bank self.new.last) }
     {
+        if let Forgets = step {
+            forget(&mut self.bank, self.kind, self.last, now);
+            return Ok(true);
+        }
         let Does(effect) = step else {
             return Ok(match self.kind {
                 ChannelKind::Signal => signal_answers(&self.bank, self.last, now, step),
@@ -322,6 +335,73 @@ fn event_at_the_next_time(rt: HostRuntime) -> Result<(), Fail> {
         (at(6, 1), Sees(Value::Bool(false), true)),
     ])?;
     assert_eq!(rt; wrong, None);
+    Ok(())
+}
+
+// A signal answers at stamps behind its newest request by the requests before each stamp: a request isn't seen in its own
+// cycle, a change is an event in the delta cycle just after it alone, and a request that changes nothing makes none.
+#[test]
+fn signal_behind_its_newest_request(rt: HostRuntime) -> Result<(), Fail> {
+    let mut trial = Trial::new(rt.alloc(), ChannelKind::Signal, Kind::Int, 0)?;
+    let wrong = trial.first_wrong(&[
+        (at(1, 0), Does(Effect::Request(0, Value::Int(5)))),
+        (at(1, 1), Does(Effect::Request(0, Value::Int(6)))),
+        (at(4, 0), Does(Effect::Request(0, Value::Int(6)))),
+        (at(7, 2), Does(Effect::Request(0, Value::Int(8)))),
+        (at(7, 2), Does(Effect::Request(0, Value::Int(9)))),
+        (at(0, 0), Sees(Value::Int(0), false)),
+        (at(1, 0), Sees(Value::Int(0), false)),
+        (at(1, 1), Sees(Value::Int(5), true)),
+        (at(1, 2), Sees(Value::Int(6), true)),
+        (at(1, 3), Sees(Value::Int(6), false)),
+        (at(2, 0), Sees(Value::Int(6), false)),
+        (at(4, 0), Sees(Value::Int(6), false)),
+        (at(4, 1), Sees(Value::Int(6), false)),
+        (at(7, 2), Sees(Value::Int(6), false)),
+        (at(7, 3), Sees(Value::Int(9), true)),
+        (at(7, 4), Sees(Value::Int(9), false)),
+        (at(8, 0), Sees(Value::Int(9), false)),
+    ])?;
+    assert_eq!(rt; wrong, None);
+    Ok(())
+}
+
+// Once what was before a stamp is forgotten, a signal answers at that stamp and at later ones as before, by the last
+// request before it.
+#[test]
+fn signal_forgets(rt: HostRuntime) -> Result<(), Fail> {
+    let mut trial = Trial::new(rt.alloc(), ChannelKind::Signal, Kind::Int, 0)?;
+    let wrong = trial.first_wrong(&[
+        (at(1, 0), Does(Effect::Request(0, Value::Int(5)))),
+        (at(2, 0), Does(Effect::Request(0, Value::Int(6)))),
+        (at(3, 0), Does(Effect::Request(0, Value::Int(7)))),
+        (at(2, 1), Forgets),
+        (at(4, 0), Does(Effect::Request(0, Value::Int(8)))),
+        (at(2, 1), Sees(Value::Int(6), true)),
+        (at(2, 2), Sees(Value::Int(6), false)),
+        (at(3, 0), Sees(Value::Int(6), false)),
+        (at(3, 1), Sees(Value::Int(7), true)),
+        (at(4, 0), Sees(Value::Int(7), false)),
+        (at(4, 1), Sees(Value::Int(8), true)),
+        (at(9, 0), Forgets),
+        (at(9, 0), Does(Effect::Request(0, Value::Int(1)))),
+        (at(9, 1), Does(Effect::Request(0, Value::Int(2)))),
+        (at(9, 0), Sees(Value::Int(8), false)),
+        (at(9, 1), Sees(Value::Int(1), true)),
+        (at(9, 2), Sees(Value::Int(2), true)),
+        (at(9, 3), Sees(Value::Int(2), false)),
+    ])?;
+    assert_eq!(rt; wrong, None);
+    let told = trial.entries(rt.alloc(), at(10, 0))?;
+    let expected = [
+        (at(1, 0), What::Changed, Value::Int(5)),
+        (at(2, 0), What::Changed, Value::Int(6)),
+        (at(3, 0), What::Changed, Value::Int(7)),
+        (at(4, 0), What::Changed, Value::Int(8)),
+        (at(9, 0), What::Changed, Value::Int(1)),
+        (at(9, 1), What::Changed, Value::Int(2)),
+    ];
+    assert_eq!(rt; told.as_slice(), expected.as_slice());
     Ok(())
 }
 

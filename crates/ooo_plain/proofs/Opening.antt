@@ -24,7 +24,7 @@ use Rattle.ooo_channels.specs.declared.channel.ChannelState.TheVariants as state
 use Rattle.ooo_channels.specs.Operations.{Operations}
 use Rattle.ooo_channels.specs.Cycles.{Cycle, cycle_of, cycle_at, channel_in, readable, writable, values_left, later_channel, IsSeenAs}
 use Rattle.ooo_channels.specs.Calls.{channel_calls}
-use Rattle.ooo_channels.specs.Conditions.{HasChannel}
+use Rattle.ooo_channels.specs.Conditions.{HasChannel, ChannelIsBy}
 use Rattle.ooo_channels.specs.Kept.{HasKind, IsChannelAfter}
 use Rattle.ooo_channels.specs.Bank.{BankState, IsBankAfter}
 use Rattle.ooo_channels.specs.Agreement.{IsShown, core}
@@ -138,6 +138,10 @@ module _ (laws : Laws) (design : Design) (sound : IsSound design) (bank : BankSt
     shown_of : IsShown ops w c
     shown_of = laws.shows ops w c h.agrees (let l = slice_get_within design.channels c b is in let n = ap length h.channels in omega (arith, l, n))
 
+    -- no operation on it is later than the world's stamp
+    pub not_later : ChannelIsBy ops c at
+    not_later = subst (ChannelIsBy ops c) h.stamp (h.agrees.channels c (let l = slice_get_within design.channels c b is in let n = ap length h.channels in omega (arith, l, n))).by
+
     pub signal_open : b.kind ≡ kind.Signal → (v : Value) (changed : Bool) → IsSeenAs (channel_in at ops c) at.time (v, changed) → shown (port.Signal c v changed) ≡ open_seen at.time c (channel_at w.channels c)
     signal_open k v changed s =
         let x = signal_is design w h.ends c b is k in
@@ -195,10 +199,10 @@ bound_is design ys c d k e lt h = record {
 }
 
 module _ (laws : Laws) (design : Design) (sound : IsSound design) (bank : BankState) (at : Stamp) (c : ℕ) where
-  pub signal_opens : Bound design c kind.Signal → (seen : Value × Bool) → ((ops : Operations) → IsBankAfter bank ops → HasChannel ops c kind.Signal → IsSeenAs (channel_in at ops c) at.time seen) → OpensTo design bank at c (port.Signal c seen.0 seen.1)
+  pub signal_opens : Bound design c kind.Signal → (seen : Value × Bool) → ((ops : Operations) → IsBankAfter bank ops → HasChannel ops c kind.Signal → ChannelIsBy ops c at → IsSeenAs (channel_in at ops c) at.time seen) → OpensTo design bank at c (port.Signal c seen.0 seen.1)
   signal_opens b seen is = record {
     number = refl;
-    shows = λ w ops h. signal_open laws design sound bank at c b.channel b.is w ops h b.kind_is seen.0 seen.1 (is ops h.bank_is (has_channel laws design sound bank at c b.channel b.is kind.Signal b.kind_is ops h.channels));
+    shows = λ w ops h. signal_open laws design sound bank at c b.channel b.is w ops h b.kind_is seen.0 seen.1 (is ops h.bank_is (has_channel laws design sound bank at c b.channel b.is kind.Signal b.kind_is ops h.channels) (not_later laws design sound bank at c b.channel b.is w ops h));
   }
 
   module _ (b : Bound design c kind.Fifo) (values : List Value) (free : ℕ) (has : HasValues bank at c values) (is : (ops : Operations) → IsBankAfter bank ops → HasChannel ops c kind.Fifo → free ≡ writable (channel_in at ops c)) where

@@ -8,7 +8,7 @@ loop-channel-init c = record { first = first_none c.args.channels.now _ c.new-ma
 
 pub loop-channel-preserved : goal.loop-channel-preserved
 loop-channel-preserved c = record {
-  first = first_more c.args.channels.now c.loop-channel.channel-index _ c.loop-channel.made.items _ _ c.loop-channel-test.true c.loop-channel.invariant.first c.in_ok-push.ensures.items c.new.ensures.kind c.new.ensures.first;
+  first = first_more c.args.channels.now c.loop-channel.channel-index _ c.loop-channel.made.items _ _ c.loop-channel-test.true c.loop-channel.invariant.first c.in_ok-push.ensures.items c.new.ensures.kind c.new.ensures.first c.new.ensures.shows;
   within = omega (arith, c.loop-channel-test.true);
 }
 

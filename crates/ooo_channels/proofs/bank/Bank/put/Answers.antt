@@ -2,10 +2,11 @@ use Rattle.std.proofs.Common.{[], ◌∷◌, refl, sym, subst, eq-eqb}
 use Rattle.std.proofs.lemmas.Bool.{ne_eqb}
 use Rattle.ooo_value.specs.declared.bound.ChannelKind.TheVariants as kind
 use Rattle.ooo_code.specs.declared.activation.Effect.TheVariants as effect
-use Rattle.ooo_channels.specs.Cycles.{cycle_of}
+use Rattle.ooo_channels.specs.Operations.{after_effect}
+use Rattle.ooo_channels.specs.Cycles.{cycle_of, channel_before}
 use Rattle.ooo_channels.specs.Calls.{channel_calls}
 use Rattle.ooo_channels.specs.Bank.{BankState, IsBankAfter, Covers}
-use Rattle.ooo_channels.proofs.Banked.{channel_kept, channel_there, channel_applied, covers_channel, room_for_one}
+use Rattle.ooo_channels.proofs.Banked.{channel_kept, channel_there, channel_applied, fifo_shows, covers_channel, room_for_one}
 use Rattle.ooo_channels.proofs.bank.Bank.put.Goals as goal
 
 pub put-requires-clause-room : goal.put-requires-clause-room
@@ -37,7 +38,8 @@ returns c =
           channel_applied i.channels.items i.kinds.items i.events.items i.below ops c.args.at (effect.Put c.args.id c.args.value) c.args.id kind.Fifo _ c.put.new.self h may.names c.put.ensures.kind c.index_mut.ensures.value c.put.ensures.keeps
           (eq-eqb c.args.id c.args.id refl) (λ d ne. ne_eqb d c.args.id ne) (λ e. refl)
           (c.put.ensures.after c.args.id (cycle_of ops c.args.id) (channel_calls ops)
-          (channel_kept i.channels.items i.kinds.items i.events.items i.below ops c.args.id _ h lt c.index_mut.ensures.value) may.in_order may.place);
+          (channel_kept i.channels.items i.kinds.items i.events.items i.below ops c.args.id _ h lt c.index_mut.ensures.value) may.in_order may.place)
+          (fifo_shows i.below (channel_before (after_effect c.args.at ops (effect.Put c.args.id c.args.value)) c.args.id) c.put.new.self c.put.ensures.kind);
       room = λ more room.
           covers_channel i.channels.items i.kinds.items i.events.items i.below (effect.Put c.args.id c.args.value) more c.args.id _ c.put.new.self lt c.index_mut.ensures.value
           (eq-eqb c.args.id c.args.id refl) (λ d ne. ne_eqb d c.args.id ne) (λ e. refl) c.put.ensures.room

@@ -24,5 +24,5 @@ returns-in-Request-clause-more c =
     let h = subst (λ (b : BankState). IsBankAfter b may.0) (sym c.self.view_is) may.1 in
     let has = named_channel may.0 c.args.effect c.in-Request.c c.in-Request.is may.2 in
     let lt = channel_there i.channels.items i.kinds.items i.events.items i.below may.0 c.in-Request.c has.0 h has.1 in
-    let more = more_on_channel i.channels.items i.kinds.items i.events.items i.below c.in-Request.c _ r.new.self lt c.index_mut-in-Request.ensures.value r.ensures.kept r.ensures.kind r.ensures.keeps r.ensures.after in
+    let more = more_on_channel i.channels.items i.kinds.items i.events.items i.below c.in-Request.c _ r.new.self lt c.index_mut-in-Request.ensures.value r.ensures.kept r.ensures.kind r.ensures.keeps r.ensures.after r.ensures.shows in
     subst (λ (b : BankState). HasMoreRoom b (record { channels = set i.channels.items c.in-Request.c r.new.self; kinds = i.kinds.items; events = i.events.items; below = i.below })) c.self.view_is more

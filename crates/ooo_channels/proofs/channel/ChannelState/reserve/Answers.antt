@@ -1,5 +1,5 @@
 use Rattle.std.proofs.Common.{subst}
-use Rattle.ooo_channels.specs.Kept.{IsChannelAfter}
+use Rattle.ooo_channels.specs.Kept.{IsChannelAfter, ChannelShows}
 use Rattle.ooo_channels.specs.Room.{HasRoom}
 use Rattle.ooo_channels.proofs.channel.ChannelState.reserve.Goals as goal
 
@@ -14,3 +14,6 @@ returns-in-Fifo-clause-kept c = λ m room. c.reserve-in-Fifo.ensures.kept m (sub
 
 pub returns-in-Fifo-clause-after : goal.returns-in-Fifo-clause-after
 returns-in-Fifo-clause-after c = λ n below x calls h. c.reserve-in-Fifo.ensures.after n below x calls (subst (IsChannelAfter n below x calls) c.in-Fifo.is h)
+
+pub returns-in-Signal-clause-shows : goal.returns-in-Signal-clause-shows
+returns-in-Signal-clause-shows c = λ below was h. c.reserve.ensures.shows below was (subst (ChannelShows below was) c.in-Signal.is h)

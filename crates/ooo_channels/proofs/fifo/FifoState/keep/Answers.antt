@@ -1,6 +1,6 @@
 use Rattle.std.proofs.Common.{refl}
 use Rattle.ooo_channels.proofs.Reserving.{fifo_with}
-use Rattle.ooo_channels.proofs.fifo.FifoState.ask.Goals as goal
+use Rattle.ooo_channels.proofs.fifo.FifoState.keep.Goals as goal
 
 pub returns-in-Written-clause-after : goal.returns-in-Written-clause-after
 returns-in-Written-clause-after c = λ n below x h.
