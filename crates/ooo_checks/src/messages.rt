@@ -1,12 +1,15 @@
 use ooo_checked::TypeBreach;
 use ooo_lexer::LexBreach;
 use ooo_messages::{
-    code_reason, elab_breach, elab_reason, lexer_breach, lexer_reason, parser_breach,
-    parser_reason, segments_reason, stop_reason, types_breach, types_reason, words_reason,
+    code_reason, elab_breach, elab_reason, explain, explain_ending, explain_stop, lexer_breach,
+    lexer_reason, parser_breach, parser_reason, segments_reason, stop_reason, types_breach,
+    types_reason, words_reason,
 };
 use ooo_syntax::ParseBreach;
 use ooo_walk::ElabBreach;
 use ooo_words::WordsBreach;
+use std::alloc::AllocError;
+use std::test::Fail;
 
 #[test]
 fn says_what_is_wrong(rt: HostRuntime) {
@@ -31,7 +34,7 @@ fn says_what_is_wrong(rt: HostRuntime) {
     assert_eq!(rt; lexer_breach("Bad"), None);
     assert_eq!(rt;
         parser_reason(ParseBreach::Syntax),
-        "the grammar doesn't go on with this; often a ';' or a bracket is missing before it"
+        "the grammar doesn't go on with this"
     );
     assert_eq!(rt; parser_breach("TooDeep"), Some(ParseBreach::TooDeep));
     assert_eq!(rt; parser_breach("BadNumber"), None);
@@ -47,4 +50,62 @@ fn says_what_is_wrong(rt: HostRuntime) {
     );
     assert_eq!(rt; elab_breach("FifoSize"), Some(ElabBreach::FifoSize));
     assert_eq!(rt; elab_breach("NotAPort"), None);
+}
+
+fn is_said(said: Result<Option<String>, AllocError>, wanted: &str) -> Result<bool, AllocError> {
+    Ok(said?.is_some_and(|text| text.as_str() == wanted))
+}
+
+// A tab stays in both lines, a byte outside ASCII is a '?', and the line ends before its carriage return.
+#[test]
+fn the_mark_stands_under_the_token(rt: HostRuntime) -> Result<(), Fail> {
+    let text = b"SC_MODULE(M) {\n\t/* \xc3\xa4 */ double x;\r\n};\n";
+    let said = explain(rt.alloc(), text, "refused parser NotInProfile 2:11\n");
+    let wanted =
+        "<stdin>:2:11: error: found 'double': C++ or SystemC has this here, but the simulator doesn't take it\n\
+        \t/* ?? */ double x;\n\
+        \t         ^\n\
+        note: there are no fractions: use whole numbers of a smaller unit\n";
+    assert!(rt; is_said(said, wanted)?);
+    Ok(())
+}
+
+#[test]
+fn a_long_line_is_cut_around_the_mark(rt: HostRuntime) -> Result<(), Fail> {
+    let text = b"0123456789012345678901234567890123456789012345678901234567890123456789@\
+        0123456789012345678901234567890123456789";
+    let said = explain(rt.alloc(), text, "refused lexer BadByte 1:71\n");
+    let wanted = "<stdin>:1:71: error: this byte begins no token and no escape\n\
+        ...0123456789012345678901234567890123456789@012345678901234567890123456789012345678...\n\
+        \x20                                          ^\n\
+        note: take it away: it may stand in comments and texts alone\n";
+    assert!(rt; is_said(said, wanted)?);
+    Ok(())
+}
+
+#[test]
+fn an_ending_is_told_at_its_statement(rt: HostRuntime) -> Result<(), Fail> {
+    let text = b"a\n  x = 1 / y;\n";
+    let said = explain_ending(rt.alloc(), text, "fault DivideByZero 10 ns 0 m.a 2");
+    let wanted = "<stdin>:2:3: error: DivideByZero in process m.a at 10 ns, delta cycle 0: \
+        a division or a remainder by zero\n\
+        \x20 x = 1 / y;\n\
+        \x20 ^\n\
+        note: test the divisor first: 'if (d != 0) { .. }'\n";
+    assert!(rt; is_said(said, wanted)?);
+    assert!(rt; explain_ending(rt.alloc(), text, "idle 10 ns 0")?.is_none());
+    Ok(())
+}
+
+#[test]
+fn a_missing_stop_time_is_told_at_its_call(rt: HostRuntime) -> Result<(), Fail> {
+    let said = explain_stop(rt.alloc(), b"  sc_start();\n");
+    let wanted =
+        "<stdin>:1:3: error: neither --stop nor the text's sc_start says when the run ends\n\
+        \x20 sc_start();\n\
+        \x20 ^\n\
+        note: write 'sc_start(100, SC_NS);', or call with '--stop 100ns'\n";
+    assert!(rt; is_said(said, wanted)?);
+    assert!(rt; explain_stop(rt.alloc(), b"int x;")?.is_none());
+    Ok(())
 }

@@ -2,9 +2,10 @@
 //! words on standard error.
 #![tactic(auto)]
 
-mod first_line;
+mod ends;
 mod perform;
 mod remarks;
+mod text_read;
 
 ghost use Rattle.std.specs.Prelude.{◌≡◌, ◌≢◌};
 ghost use Rattle.std.specs.IoError.{error_kind};

@@ -4,8 +4,9 @@ ghost use Rattle.ooo_sim.specs.Requests.{words_of};
 ghost use Rattle.ooo_sim.specs.Statuses.{number_of};
 ghost use Rattle.ooo_sim.specs.declared.status.Status.{Status};
 
-use crate::first_line::FirstLine;
-use crate::remarks::remark;
+use crate::ends::Ends;
+use crate::remarks::{Seen, remark};
+use crate::text_read::TextRead;
 use ooo_outside::{OpenGate, ReadSource, WriteSink};
 use ooo_sim::simulate;
 use std::alloc::Global;
@@ -26,10 +27,16 @@ pub fn perform<I: Read + Drop, O: Write>(
     ensures { (status : Status)
         × (result ≡ number_of status) × IsOfReply (words_of words.now) status }
 {
-    let mut line = FirstLine::new(output);
-    let mut source = ReadSource::new(input);
-    let mut sink = WriteSink::new(&mut line);
+    let mut text = TextRead::new(alloc, input);
+    let mut ends = Ends::new(output);
+    let mut source = ReadSource::new(&mut text);
+    let mut sink = WriteSink::new(&mut ends);
     let status = simulate(rt, alloc, words, &mut source, &mut sink, &OpenGate);
-    remark(rt, alloc, status, words, line.bytes());
+    let seen = Seen {
+        source: text.kept(),
+        first: ends.first(),
+        last: ends.last(),
+    };
+    remark(rt, alloc, status, words, &seen);
     status.number()
 }

@@ -1,19 +1,45 @@
 use ooo_messages::{
-    code_reason, elab_breach, elab_reason, lexer_breach, lexer_reason, parser_breach,
-    parser_reason, segments_reason, stop_reason, types_breach, types_reason, words_reason,
+    code_reason, explain, explain_ending, explain_stop, segments_reason, stop_reason, words_reason,
 };
 use ooo_sim::{MOST_BYTES, Status};
 use ooo_words::{Command, WordsError, read};
-use std::alloc::Global;
+use std::alloc::{AllocError, Global};
 
 // The line that refuses words where no time stops the run.
 const STOP_MISSING: &[u8] = b"refused words StopMissing\n";
+
+// The line that refuses a text whose model has too large a code.
+const CODE_TOO_LARGE: &[u8] = b"refused lower CodeTooLarge\n";
 
 // The line that refuses a text whose model has too many segments.
 const TOO_MANY_SEGMENTS: &[u8] = b"refused segments TooManySegments\n";
 
 // The commands that read a model.
 const READING: [&str; 3] = ["plain", "check", "tables"];
+
+/// What a call has read and written.
+#[derive(Clone, Copy)]
+pub struct Seen<'a> {
+    /// The text, or nothing where there was no memory to keep it.
+    pub source: &'a [u8],
+    /// The first bytes that were written.
+    pub first: &'a [u8],
+    /// The last bytes that were written.
+    pub last: &'a [u8],
+}
+
+impl<'a> Seen<'a> {
+    // The last line that was written, without its end.
+    fn last_line(&self) -> Option<&'a str> {
+        let lines = self.last.strip_suffix(b"\n")?;
+        let line = lines.rsplit(|byte| *byte == b'\n').next()?;
+        str::from_utf8(line).ok()
+    }
+
+    fn first_line(&self) -> Option<&'a str> {
+        str::from_utf8(self.first).ok()
+    }
+}
 
 /// Says that a model is read from the terminal, where the words may ask for that.
 pub fn remark_terminal(rt: &impl Eprint, words: &[String]) {
@@ -28,24 +54,16 @@ pub fn remark_terminal(rt: &impl Eprint, words: &[String]) {
     }
 }
 
-/// Says in words why there is no report, or not all of it: by the status, the words, and the first bytes that were
-/// written.
-pub fn remark(rt: &impl Eprint, alloc: Global, status: Status, words: &[String], line: &[u8]) {
+/// Says in words why there is no report, or not all of it: by the status, the words, and what was read and written.
+pub fn remark(rt: &impl Eprint, alloc: Global, status: Status, words: &[String], seen: &Seen<'_>) {
     match status {
         Status::Done => {}
-        Status::Faulted => say(
-            rt,
-            "the run ended by a fault, which the report's last line names",
-        ),
-        Status::WordsRefused => remark_words(rt, &read(alloc, words), line),
-        Status::TextRefused => remark_text(rt, line),
+        Status::WordsRefused => remark_words(rt, alloc, &read(alloc, words), seen),
+        Status::TextRefused => remark_text(rt, alloc, seen),
         Status::SourceFailed => say(rt, "standard input can't be read"),
         Status::SinkFailed => say(rt, "standard output can't be written"),
         Status::OutOfMemory => say(rt, "out of memory"),
-        Status::LimitReached => say(
-            rt,
-            "the run reached a limit, which the report's last line names",
-        ),
+        Status::Faulted | Status::LimitReached => remark_ending(rt, alloc, seen),
         Status::SourceTooLong => {
             let _ = eprintln!(rt; "peljouk: the text has more than {MOST_BYTES} bytes");
         }
@@ -64,7 +82,12 @@ pub fn remark_unread(rt: &impl Eprint, status: Status) {
 }
 
 // Words that are read are refused for what isn't built, or for the stop time that neither they nor the text have.
-fn remark_words(rt: &impl Eprint, asked: &Result<Command, WordsError>, line: &[u8]) {
+fn remark_words(
+    rt: &impl Eprint,
+    alloc: Global,
+    asked: &Result<Command, WordsError>,
+    seen: &Seen<'_>,
+) {
     match asked {
         Err(WordsError::Refused(breach, word)) => {
             let reason = words_reason(*breach);
@@ -78,7 +101,11 @@ fn remark_words(rt: &impl Eprint, asked: &Result<Command, WordsError>, line: &[u
                 None => say_refused(rt, reason),
             }
         }
-        _ if line == STOP_MISSING => say_refused(rt, stop_reason()),
+        _ if seen.first == STOP_MISSING => {
+            if !is_said(rt, explain_stop(alloc, seen.source)) {
+                say_refused(rt, stop_reason());
+            }
+        }
         _ => say_refused(rt, "what they ask for isn't built yet"),
     }
     say_use(rt);
@@ -88,53 +115,53 @@ fn say_refused(rt: &impl Eprint, reason: &str) {
     let _ = eprintln!(rt; "peljouk: the words are refused: {reason}");
 }
 
-// A refusal's line is `refused LAYER NAME LINE:COLUMN`, with names behind it where elaboration refuses, or
-// `refused lower CodeTooLarge`, or `refused segments TooManySegments`.
-fn remark_text(rt: &impl Eprint, line: &[u8]) {
-    match str::from_utf8(line).ok().and_then(refusal_in) {
-        Some((reason, line, column)) => {
-            let _ = eprintln!(rt;
-                "peljouk: the text is refused: line {line}, column {column}: {reason}"
-            );
-        }
-        None => {
-            let reason = if line == TOO_MANY_SEGMENTS {
-                segments_reason()
-            } else {
-                code_reason()
+// Says why a text is refused: at its place, or by its code or segments, which have none.
+fn remark_text(rt: &impl Eprint, alloc: Global, seen: &Seen<'_>) {
+    match seen.first {
+        CODE_TOO_LARGE => say_text(rt, code_reason()),
+        TOO_MANY_SEGMENTS => say_text(rt, segments_reason()),
+        _ => {
+            let message = match seen.first_line() {
+                Some(line) => explain(alloc, seen.source, line),
+                None => Ok(None),
             };
-            let _ = eprintln!(rt; "peljouk: the text is refused: {reason}");
+            if !is_said(rt, message) {
+                say_text(
+                    rt,
+                    "the text is refused, as the line on standard output says",
+                );
+            }
         }
     }
 }
 
-// The reason, the line and the column that a refusal of a text names.
-fn refusal_in(line: &str) -> Option<(&'static str, &str, &str)> {
-    let (layer, named) = line.strip_prefix("refused ")?.split_once(' ')?;
-    let (name, place) = named.split_once(' ')?;
-    let (line, behind) = place.strip_suffix("\n")?.split_once(':')?;
-    let column = match behind.split_once(' ') {
-        Some((column, _names)) => column,
-        None => behind,
-    };
-    Some((layer_reason(layer, name)?, line, column))
+fn say_text(rt: &impl Eprint, reason: &str) {
+    let _ = eprintln!(rt; "<stdin>: error: {reason}");
 }
 
-// What a layer's breach of this name says.
-fn layer_reason(layer: &str, name: &str) -> Option<&'static str> {
-    if layer == "lexer" {
-        return Some(lexer_reason(lexer_breach(name)?));
+// Says what ended a run before its time.
+fn remark_ending(rt: &impl Eprint, alloc: Global, seen: &Seen<'_>) {
+    let message = match seen.last_line() {
+        Some(line) => explain_ending(alloc, seen.source, line),
+        None => Ok(None),
+    };
+    if !is_said(rt, message) {
+        say(
+            rt,
+            "the run ended by a fault or a limit, which the report's last line names",
+        );
     }
-    if layer == "parser" {
-        return Some(parser_reason(parser_breach(name)?));
+}
+
+// Says a message, and whether there is one.
+fn is_said(rt: &impl Eprint, message: Result<Option<String>, AllocError>) -> bool {
+    match message {
+        Ok(Some(text)) => {
+            let _ = eprint!(rt; "{text}");
+            true
+        }
+        _ => false,
     }
-    if layer == "types" {
-        return Some(types_reason(types_breach(name)?));
-    }
-    if layer == "elaborate" {
-        return Some(elab_reason(elab_breach(name)?));
-    }
-    None
 }
 
 fn say(rt: &impl Eprint, text: &str) {

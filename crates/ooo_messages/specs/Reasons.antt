@@ -48,7 +48,7 @@ lexer_reason lexer.BadNumber = codes "this is no number"
 
 -- what is wrong with a text that the grammar refuses
 abbrev pub parser_reason : ParseBreach → List ℕ
-parser_reason parser.Syntax = codes "the grammar doesn't go on with this; often a ';' or a bracket is missing before it"
+parser_reason parser.Syntax = codes "the grammar doesn't go on with this"
 parser_reason parser.TooDeep = codes "this stands too deep, or is one operator too many"
 parser_reason parser.NotInProfile = codes "C++ or SystemC has this here, but the simulator doesn't take it"
 

@@ -1,9 +1,26 @@
 //! What is wrong with words and texts, in words, for who reads standard error.
+//!
+//! [`explain`] says of a refused text what is wrong, where, and how to go on: with the line and a mark, and a hint from
+//! the tables of `shapes`.
 #![tactic(auto)]
 
+mod declared;
+mod endings;
+mod excerpt;
+mod explanation;
+mod hints;
 pub mod law;
+mod lexer_hints;
+mod message;
 mod reasons;
+mod refusal;
+mod shape;
+mod shapes;
+mod site;
+mod spelling;
 
+pub use endings::explain_ending;
+pub use explanation::{explain, explain_stop};
 pub use reasons::{
     code_reason, elab_breach, elab_reason, lexer_breach, lexer_reason, parser_breach,
     parser_reason, segments_reason, stop_reason, types_breach, types_reason, words_reason,

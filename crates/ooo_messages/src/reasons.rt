@@ -48,8 +48,7 @@ pub fn parser_reason(breach: ParseBreach) -> &'static str
     ensures { result.now ≡ parser_reason breach }
 {
     match breach {
-        ParseBreach::Syntax =>
-            "the grammar doesn't go on with this; often a ';' or a bracket is missing before it",
+        ParseBreach::Syntax => "the grammar doesn't go on with this",
         ParseBreach::TooDeep => "this stands too deep, or is one operator too many",
         ParseBreach::NotInProfile =>
             "C++ or SystemC has this here, but the simulator doesn't take it",

@@ -1,0 +1,85 @@
+use crate::excerpt::line_of;
+use crate::message::Message;
+use ooo_lexer::Position;
+use std::alloc::{AllocError, Global};
+
+/// What ended a run before its time, by the last line of its report: a run fault, or a limit. Nothing is said of
+/// another ending.
+pub fn explain_ending(
+    alloc: Global,
+    source: &[u8],
+    line: &str,
+) -> Result<Option<String>, AllocError> {
+    let words: Vec<&str> = line.split(' ').collect(alloc)?;
+    let mut message = Message::new(alloc, source);
+    match words.as_slice() {
+        ["fault", name, amount, unit, delta, process, number] => {
+            let reason = fault_reason(name);
+            let what = format!(in alloc;
+                "{name} in process {process} at {amount} {unit}, delta cycle {delta}: {reason}"
+            )?;
+            message.error(begin_of_line(source, number), &what)?;
+            message.hint(fault_hint(name))?;
+        }
+        ["statements", amount, unit, delta, process, number] => {
+            let what = format!(in alloc;
+                "process {process} has run as many statements without a wait as are allowed, \
+                at {amount} {unit}, delta cycle {delta}"
+            )?;
+            message.error(begin_of_line(source, number), &what)?;
+            message.hint(
+                "an endless loop of a thread has a 'wait' in it; '--statements N' allows more than 1000000",
+            )?;
+        }
+        ["deltas", amount, unit, delta] => {
+            message.error_anywhere(&format!(in alloc;
+                "at {amount} {unit} there are as many delta cycles as are allowed, {delta}"
+            )?)?;
+            message.hint(
+                "processes may wake each other without end while no time goes by: let one of them wait for a time; \
+                '--deltas N' allows more than 10000",
+            )?;
+        }
+        _ => return Ok(None),
+    }
+    Ok(Some(message.into_text()))
+}
+
+// The place where the line of this number begins, behind blanks.
+fn begin_of_line(source: &[u8], number: &str) -> Position {
+    let line = number.parse().unwrap_or(0);
+    let blanks = match line_of(source, line) {
+        Some(bytes) => bytes
+            .iter()
+            .take_while(|byte| byte.is_ascii_whitespace())
+            .count(),
+        None => 0,
+    };
+    Position {
+        line,
+        column: u32::try_from(blanks).unwrap_or(0).saturating_add(1),
+    }
+}
+
+// What a run fault of this name is.
+fn fault_reason(name: &str) -> &'static str {
+    match name {
+        "Overflow" => "a value doesn't fit its type",
+        "DivideByZero" => "a division or a remainder by zero",
+        "ShiftRange" => "a shift by a negative count, or by one that is too great for the type",
+        "IndexRange" => "an index is negative, or not below the array's length",
+        _ => "a time is negative, or too great",
+    }
+}
+
+fn fault_hint(name: &str) -> &'static str {
+    match name {
+        "Overflow" =>
+            "compute in 'long long', as '(long long)a * b', or in 'unsigned', which wraps round",
+        "DivideByZero" => "test the divisor first: 'if (d != 0) { .. }'",
+        "ShiftRange" =>
+            "an 'int' or 'unsigned' is shifted by 0 to 31, a 'long long' by 0 to 63: write '(unsigned long long)x << n'",
+        "IndexRange" => "test the index first, or take it '% LENGTH'",
+        _ => "a time has 0 to 4611686018427387903 ps: test the amount first",
+    }
+}
