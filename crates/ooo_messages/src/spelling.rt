@@ -12,11 +12,10 @@ const SHORTEST: usize = 3;
 
 // Whether two words are the same but for one letter, which may be one that the other hasn't.
 fn has_one_slip(word: &[u8], other: &[u8]) -> bool {
-    let long = word.len().max(other.len());
-    let short = word.len().min(other.len());
-    short >= SHORTEST
-        && long - short <= 1
-        && same_at_start(word, other).saturating_add(same_at_end(word, other)) >= long - 1
+    let same = same_at_start(word, other).saturating_add(same_at_end(word, other));
+    word.len().min(other.len()) >= SHORTEST
+        && word.len().abs_diff(other.len()) <= 1
+        && same.saturating_add(1) >= word.len().max(other.len())
 }
 
 // Whether two words are the same but for two letters that stand in the other order.
