@@ -223,16 +223,12 @@ pub static IN_MAIN: &[Shape] = &[
         hint: "a clock has a name and a period alone, and begins high: for another duty cycle let a thread write a signal",
     },
     Shape {
-        tokens: "> <word> ^ ,",
-        hint: "in sc_main each channel is a declaration of its own",
-    },
-    Shape {
         tokens: "<word> <word> ^ ;",
         hint: "an instance has its name as a text: 'Child c(\"c\");'",
     },
     Shape {
         tokens: "<word> <word> ^ ,",
-        hint: "in sc_main each instance is a declaration of its own: 'Child c(\"c\");'",
+        hint: "an instance has its name as a text: 'Child c(\"c\");'",
     },
     Shape {
         tokens: "> <word> ^ [",
