@@ -39,7 +39,7 @@ pub record IsBankAfter (bank : BankState) (ops : Operations) : Type 0 where
   pub events : (e : ℕ) (d : EventState) → slice_get ops.events e ≡ Some event.Own → IsEventKept ops.below (slice_index_or bank.events e d) (own_calls ops e)
   pub present : All (IsKeptIn bank.channels) ops.events
 
--- a bank has channel c, of this kind: some operations were applied to it, which are on such a channel
+-- a bank has channel c, of this kind: some operations were applied to it, and their channel c is there, of this kind
 abbrev pub HasChannelIn : BankState → ℕ → ChannelKind → Type 0
 HasChannelIn bank c k = (ops : Operations) × IsBankAfter bank ops × HasChannel ops c k
 

@@ -46,6 +46,7 @@ impl Version {
     }
 
     /// The value that is seen in the cycle of a stamp, and whether it changed in the delta cycle just before.
+    #[inline(always)]
     pub fn seen(&self, at: Stamp) -> (Value, bool)
         ensures { (x : Cycle) → IsVersionIn self.now x →
             IsSeenAs (cycle_at at x).channel at.time result }
