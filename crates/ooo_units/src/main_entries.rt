@@ -11,9 +11,7 @@ use crate::members::{read_channel_word, read_constant, read_of_type};
 use crate::signs::{begins_with_channel, begins_with_constant, begins_with_main_entry, none_yet};
 use ooo_grammar::{Limits, Read, begins_with_word, one, read_text, read_word, starts};
 use ooo_statements::read_boxed_timed;
-use ooo_syntax::{
-    ChannelWord, MainChannel, MainItem, Mark, Symbol, Terminal, TypeName, Word,
-};
+use ooo_syntax::{ChannelWord, MainChannel, MainItem, Mark, Symbol, Terminal, TypeName, Word};
 use ooo_value::Name;
 use sqlite_items::Items;
 use std::alloc::{AllocError, Global};
