@@ -28,7 +28,7 @@ has_value (thing.FileConstant k) = true
 has_value (thing.MainConstant k) = true
 has_value thing.Clock = true
 has_value (thing.Variable k) = true
-has_value (thing.Fixed k) = true
+has_value (thing.Fixed k is_static) = true
 has_value (thing.Signal k) = true
 has_value (thing.SignalPort d k) = true
 has_value (thing.Parameter k) = true
@@ -47,7 +47,7 @@ value_kind (thing.FileConstant k) = k
 value_kind (thing.MainConstant k) = k
 value_kind thing.Clock = kind.Bool
 value_kind (thing.Variable k) = k
-value_kind (thing.Fixed k) = k
+value_kind (thing.Fixed k is_static) = k
 value_kind (thing.Array k) = k
 value_kind (thing.FixedArray k) = k
 value_kind (thing.Signal k) = k
@@ -68,7 +68,7 @@ result_kind _ = kind.Int
 abbrev pub is_constant_thing : Thing → Bool
 is_constant_thing (thing.FileConstant k) = true
 is_constant_thing (thing.MainConstant k) = true
-is_constant_thing (thing.Fixed k) = true
+is_constant_thing (thing.Fixed k is_static) = true
 is_constant_thing (thing.Parameter k) = true
 is_constant_thing _ = false
 

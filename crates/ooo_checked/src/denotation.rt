@@ -29,8 +29,8 @@ pub enum Thing {
     Clock,
     /// A member variable of one value.
     Variable(Kind),
-    /// A member that keeps the one value that it starts with.
-    Fixed(Kind),
+    /// A member that keeps the one value that it starts with, and whether it is static.
+    Fixed(Kind, bool),
     /// A member variable of several values.
     Array(Kind),
     /// A member of several values that it keeps.

@@ -29,7 +29,7 @@ impl Thing {
                 | Thing::MainConstant(_)
                 | Thing::Clock
                 | Thing::Variable(_)
-                | Thing::Fixed(_)
+                | Thing::Fixed(_, _)
                 | Thing::Signal(_)
                 | Thing::SignalPort(_, _)
                 | Thing::Parameter(_)
@@ -52,7 +52,7 @@ impl Thing {
             Thing::FileConstant(kind)
             | Thing::MainConstant(kind)
             | Thing::Variable(kind)
-            | Thing::Fixed(kind)
+            | Thing::Fixed(kind, _)
             | Thing::Array(kind)
             | Thing::FixedArray(kind)
             | Thing::Signal(kind)
@@ -83,7 +83,10 @@ impl Thing {
     {
         matches!(
             self,
-            Thing::FileConstant(_) | Thing::MainConstant(_) | Thing::Fixed(_) | Thing::Parameter(_)
+            Thing::FileConstant(_)
+                | Thing::MainConstant(_)
+                | Thing::Fixed(_, _)
+                | Thing::Parameter(_)
         )
     }
 

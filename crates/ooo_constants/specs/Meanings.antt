@@ -53,7 +53,7 @@ abbrev pub name_value : Constants → Denotation → Value
 name_value c d = elim d.thing [
   | thing.FileConstant k ↦ constant_at c.file k d.number
   | thing.MainConstant k ↦ constant_at c.members k d.number
-  | thing.Fixed k ↦ member_at c k d.number
+  | thing.Fixed k is_static ↦ member_at c k d.number
   | thing.Parameter k ↦ value_in (slice_get c.parameters (d.number - 1)) k
   | _ ↦ zero_of kind.Int
 ]

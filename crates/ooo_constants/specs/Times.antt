@@ -56,7 +56,7 @@ place_of (time.Amount e scale) = first_of e
 -- the name has one value in a body: a constant of the file, or a member that keeps its value
 abbrev pub is_fixed_thing : Thing → Bool
 is_fixed_thing (thing.FileConstant k) = true
-is_fixed_thing (thing.Fixed k) = true
+is_fixed_thing (thing.Fixed k is_static) = true
 is_fixed_thing _ = false
 
 abbrev pub fixed_step : CheckedExpr-F Bool → Bool

@@ -43,7 +43,7 @@ pub(crate) fn name_value(known: Known<'_>, name: Denotation) -> Value
     match name.thing {
         Thing::FileConstant(kind) => constant_at(known.file, kind, name.number),
         Thing::MainConstant(kind) => constant_at(known.members, kind, name.number),
-        Thing::Fixed(kind) => member_at(known, kind, name.number),
+        Thing::Fixed(kind, _) => member_at(known, kind, name.number),
         Thing::Parameter(kind) => parameter_at(known, kind, name.number),
         _ => Kind::Int.zero(),
     }

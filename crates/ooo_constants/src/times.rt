@@ -74,7 +74,7 @@ pub fn place(given: &CheckedTime) -> Position
 fn is_fixed_thing(thing: Thing) -> bool
     ensures { result ≡ is_fixed_thing thing }
 {
-    matches!(thing, Thing::FileConstant(_) | Thing::Fixed(_))
+    matches!(thing, Thing::FileConstant(_) | Thing::Fixed(_, _))
 }
 
 /// Whether an expression in a body has one value in its instance.

@@ -94,6 +94,6 @@ is_instance_form (Some n) xs = is_child_form n xs
 abbrev pub is_form_of : Thing → (params : Option ℕ) → List Arg → Bool
 is_form_of (thing.Fifo k) params xs = is_size_form xs
 is_form_of (thing.Variable k) params xs = are_values 1 xs
-is_form_of (thing.Fixed k) params xs = are_values 1 xs
+is_form_of (thing.Fixed k is_static) params xs = are_values 1 xs
 is_form_of (thing.Instance m) params xs = is_instance_form params xs
 is_form_of _ params xs = is_text_form xs

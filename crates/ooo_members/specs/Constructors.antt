@@ -31,7 +31,7 @@ use Rattle.ooo_checked.specs.declared.module.CheckedConstructor.TheVariants as c
 use Rattle.ooo_checked.specs.Exprs.{resolved, name_notes, expr_of}
 use Rattle.ooo_checked.specs.Notes.{Note, Breaks, Checked, breach_when, trees, all_notes}
 use Rattle.ooo_checked.specs.Places.{first_of}
-use Rattle.ooo_checked.specs.Scopes.{Scope, entered, meaning_of, size_of, unknown}
+use Rattle.ooo_checked.specs.Scopes.{Scope, entered, left, meaning_of, size_of, unknown}
 use Rattle.ooo_checked.specs.Stats.{Stepped, events_of}
 use Rattle.ooo_checked.specs.Things.{is_known}
 use Rattle.ooo_members.specs.declared.known.ModuleFacts.{ModuleFacts}
@@ -44,10 +44,10 @@ use Rattle.ooo_members.specs.Turns.{Turn, in_turn}
 
 -- ---- initialisers
 
--- the member may be initialised: a channel, a port, an event, a child, a variable of one value
+-- the member may be initialised: a channel, a port, an event, a child, a variable of one value that is not static
 abbrev pub is_initialisable : Thing → Bool
 is_initialisable (thing.Variable k) = true
-is_initialisable (thing.Fixed k) = true
+is_initialisable (thing.Fixed k is_static) = not is_static
 is_initialisable (thing.Signal k) = true
 is_initialisable (thing.Fifo k) = true
 is_initialisable (thing.SignalPort d k) = true
@@ -155,6 +155,10 @@ process_notes rs r = elim r.denotes.thing [
   | _ ↦ Breaks what.WrongKind r.word.position ∷ []
 ]
 
+-- what the name of a process denotes in the module, whatever the constructor's parameters are called
+abbrev pub in_module : Scope → Word → Resolved
+in_module inside w = resolved (left inside) w
+
 -- a process is registered
 abbrev pub registering : ProcessKind → Resolved → Sofar → Sofar
 registering k r before = record before { registered = with_process before.registered k r.denotes; has_process = true }
@@ -180,14 +184,14 @@ set_of w e s =
 -- a statement of a constructor, behind others
 abbrev pub setup_of : Modules → Scope → Setup → Sofar → Turn Sofar CheckedSetup
 setup_of ms s (setup.Thread at w) before = record {
-  tree = checked_setup.Thread at (resolved s w);
-  behind = registering process.Thread (resolved s w) before;
-  notes = process_notes before.registered (resolved s w);
+  tree = checked_setup.Thread at (in_module s w);
+  behind = registering process.Thread (in_module s w) before;
+  notes = process_notes before.registered (in_module s w);
 }
 setup_of ms s (setup.Method at w) before = record {
-  tree = checked_setup.Method at (resolved s w);
-  behind = registering process.Method (resolved s w) before;
-  notes = process_notes before.registered (resolved s w);
+  tree = checked_setup.Method at (in_module s w);
+  behind = registering process.Method (in_module s w) before;
+  notes = process_notes before.registered (in_module s w);
 }
 setup_of ms s (setup.Sensitive at es) before = record {
   tree = checked_setup.Sensitive at (trees (events_of true es s));

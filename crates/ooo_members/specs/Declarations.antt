@@ -33,7 +33,7 @@ use Rattle.ooo_checked.specs.Stats.{Stepped, in_order}
 abbrev pub field_thing : (is_const : Bool) → Kind → FieldForm → Thing
 field_thing true k (field.Length e) = thing.FixedArray k
 field_thing false k (field.Length e) = thing.Array k
-field_thing true k _ = thing.Fixed k
+field_thing true k _ = thing.Fixed k false
 field_thing false k _ = thing.Variable k
 
 -- what a port is
@@ -107,7 +107,7 @@ instance_thing d s = thing.Instance (if is_module d.thing then d.number else siz
 -- the names that a member declares, in the order of the text. The module of a child is looked up where the child stands
 abbrev pub member_names : (outside : ℕ) → Member → Scope → Stepped (List Resolved)
 member_names outside member.Public s = no_names s
-member_names outside (member.Constant c) s = one_name (name_of outside (thing.Fixed (kind_written c.form.form)) c.name s)
+member_names outside (member.Constant c) s = one_name (name_of outside (thing.Fixed (kind_written c.form.form) c.is_static) c.name s)
 member_names outside (member.HasProcess w) s = no_names s
 member_names outside (member.Fields f) s = fields_of outside f s
 member_names outside (member.Ports p) s = words_of outside (port_thing p.port (kind_written p.form.form)) p.names s

@@ -206,7 +206,7 @@ pub fn is_form_of(thing: Thing, params: Option<usize>, args: &[Arg]) -> bool
 {
     match thing {
         Thing::Fifo(_) => is_size_form(args),
-        Thing::Variable(_) | Thing::Fixed(_) => are_values(1, args),
+        Thing::Variable(_) | Thing::Fixed(_, _) => are_values(1, args),
         Thing::Instance(_) => is_instance_form(params, args),
         _ => is_text_form(args),
     }

@@ -35,7 +35,7 @@ fn is_initialisable(thing: Thing) -> bool
     matches!(
         thing,
         Thing::Variable(_)
-            | Thing::Fixed(_)
+            | Thing::Fixed(_, false)
             | Thing::Signal(_)
             | Thing::Fifo(_)
             | Thing::SignalPort(_, _)

@@ -21,7 +21,7 @@ pub fn field_thing(is_const: bool, kind: Kind, form: &FieldForm) -> Thing
     match (is_const, form) {
         (true, FieldForm::Length(_)) => Thing::FixedArray(kind),
         (false, FieldForm::Length(_)) => Thing::Array(kind),
-        (true, _) => Thing::Fixed(kind),
+        (true, _) => Thing::Fixed(kind, false),
         (false, _) => Thing::Variable(kind),
     }
 }
@@ -190,7 +190,7 @@ pub fn declare_member(
     match member {
         Member::Public | Member::HasProcess(_) | Member::Constructor(_) => Ok(()),
         Member::Constant(c) => {
-            let thing = Thing::Fixed(kind_written(c.form.form));
+            let thing = Thing::Fixed(kind_written(c.form.form), c.is_static);
             declare(outside, thing, &c.name, scopes, notes)
         }
         Member::Fields(f) => fields(outside, f, scopes, notes),

@@ -1,11 +1,10 @@
 ghost use Rattle.std.specs.Prelude.{◌≡◌, IfOk, OnOk};
 ghost use Rattle.std.specs.Option.{option_copied};
 ghost use Rattle.ooo_bodies.specs.Noting.{noted};
-ghost use Rattle.ooo_members.specs.Constructors.{after_process, binding_of, is_stranger, is_variable, module_of};
+ghost use Rattle.ooo_members.specs.Constructors.{after_process, binding_of, in_module, is_stranger, is_variable, module_of};
 ghost use Rattle.ooo_members.specs.Constructors.{port_notes, process_notes};
 ghost use Rattle.ooo_members.specs.Known.{port_of};
 ghost use Rattle.ooo_members.specs.Constructors.{registering, set_of, setup_of, setups_of};
-ghost use Rattle.ooo_checked.specs.Exprs.{resolved};
 
 use crate::args::constant_right;
 use crate::known::{ModuleFacts, Sofar, module_at, port_of};
@@ -159,7 +158,7 @@ fn set(
     Ok(CheckedSetup::Set(name, value))
 }
 
-// A function that is registered as a process.
+// A function of the module that is registered as a process.
 fn process(
     alloc: Global,
     kind: ProcessKind,
@@ -168,13 +167,16 @@ fn process(
     sofar: &mut Sofar,
     notes: &mut Notes,
 ) -> Result<Resolved, AllocError>
-    ensures tree { IfOk result (λ name. name ≡ resolved scopes.now word.now) }
+    ensures tree { IfOk result (λ name. name ≡ in_module scopes.now word.now) }
     ensures behind { OnOk result (sofar.new
-        ≡ registering kind (resolved scopes.now word.now) sofar.old) }
+        ≡ registering kind (in_module scopes.now word.now) sofar.old) }
     ensures notes { OnOk result (notes.new ≡ noted notes.old
-        (process_notes sofar.old.registered (resolved scopes.now word.now))) }
+        (process_notes sofar.old.registered (in_module scopes.now word.now))) }
 {
-    let name = resolve(alloc, scopes, word)?;
+    let name = Resolved {
+        word: copy_word(alloc, word)?,
+        denotes: scopes.denotes_outside(word.name.as_bytes()),
+    };
     note_process(sofar, &name, notes);
     sofar.register(kind, &name);
     Ok(name)

@@ -249,8 +249,8 @@ fn prefixes_casts_and_names_give_their_values(rt: HostRuntime) -> Result<(), Fai
         (Thing::FileConstant(Kind::Int), 0, Value::Int(40)),
         (Thing::FileConstant(Kind::Long), 1, Value::Long(0)),
         (Thing::MainConstant(Kind::Bool), 0, Value::Bool(true)),
-        (Thing::Fixed(Kind::Bool), 0, Value::Bool(true)),
-        (Thing::Fixed(Kind::Uint), 1, Value::Uint(7)),
+        (Thing::Fixed(Kind::Bool, false), 0, Value::Bool(true)),
+        (Thing::Fixed(Kind::Uint, true), 1, Value::Uint(7)),
         (Thing::Parameter(Kind::Long), 1, Value::Long(11)),
         (Thing::Variable(Kind::Uint), 2, Value::Int(0)),
     ];

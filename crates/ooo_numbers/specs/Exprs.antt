@@ -41,7 +41,7 @@ nothing = bound.Constant (zero_of kind.Int)
 abbrev pub name_of : Numbering → Denotation → BoundExpr
 name_of n d = elim d.thing [
   | thing.FileConstant k ↦ bound.Constant (constant_at n.file k d.number)
-  | thing.Fixed k ↦ bound.Constant (constant_at n.members k d.number)
+  | thing.Fixed k is_static ↦ bound.Constant (constant_at n.members k d.number)
   | thing.Variable k ↦ bound.Variable (variable_of n d)
   | thing.Signal k ↦ bound.Signal (channel_of n d)
   | thing.SignalPort direction k ↦ bound.Signal (channel_of n d)

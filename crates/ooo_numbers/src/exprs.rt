@@ -33,7 +33,7 @@ fn named(numbers: Numbers<'_>, name: Denotation) -> Result<BoundExpr, AllocError
         Thing::FileConstant(kind) => {
             Ok(BoundExpr::Constant(constant_at(numbers.file, kind, name.number)))
         }
-        Thing::Fixed(kind) => {
+        Thing::Fixed(kind, _) => {
             Ok(BoundExpr::Constant(constant_at(numbers.members, kind, name.number)))
         }
         Thing::Variable(_) => Ok(BoundExpr::Variable(variable_of(numbers, name))),

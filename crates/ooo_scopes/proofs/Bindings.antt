@@ -25,13 +25,13 @@ pub count : (text : List ℕ) (xs : List Declared) → length (bindings text (re
 count text xs = length-bindings text (reverse xs) ∙ length-reverse xs
 
 -- the latest declaration comes last
-last_of : (d0 : Declared) (ds : List Declared) (d : Declared) → get_or (reverse (d0 ∷ ds)) (length ds) d ≡ d0
+pub last_of : (d0 : Declared) (ds : List Declared) (d : Declared) → get_or (reverse (d0 ∷ ds)) (length ds) d ≡ d0
 last_of d0 ds d =
     ap (λ l. get_or l (length ds) d) (reverse_onto ds d0 [])
     ∙ (ap (λ n. get_or (reverse ds ++ d0 ∷ []) n d) (sym (length-reverse ds)) ∙ get_or-append_seam (reverse ds) d0 [] d)
 
 -- the earlier declarations keep their places
-earlier_of : (d0 : Declared) (ds : List Declared) (d : Declared) (p : ℕ) → p < length ds → get_or (reverse (d0 ∷ ds)) p d ≡ get_or (reverse ds) p d
+pub earlier_of : (d0 : Declared) (ds : List Declared) (d : Declared) (p : ℕ) → p < length ds → get_or (reverse (d0 ∷ ds)) p d ≡ get_or (reverse ds) p d
 earlier_of d0 ds d p h =
     ap (λ l. get_or l p d) (reverse_onto ds d0 []) ∙ get_or-append (reverse ds) (d0 ∷ []) d p (omega (arith, length-reverse ds))
 

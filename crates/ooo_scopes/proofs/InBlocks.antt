@@ -3,6 +3,8 @@ use Rattle.std.specs.Prelude.{◌≡◌, ℕ, zero, suc, ◌+◌, ◌-◌, ◌<�
 use Rattle.std.specs.Option.{unwrap_or}
 use Rattle.std.specs.Str.{bytes_eq}
 use Rattle.std.proofs.Common.{sym, ◌∙◌, ap, arith, get_or, ⊎_elim}
+use Rattle.std.specs.List.{slice_get}
+use Rattle.std.proofs.lemmas.Option.{slice_get-get_or}
 use Rattle.std.proofs.lemmas.List.{length-drop, length-take, reverse-append, take_all}
 use Rattle.std.proofs.lemmas.List.Sums.{sum_by-append}
 use Rattle.std.proofs.lemmas.Bool.Decides.{leb_tells}
@@ -91,3 +93,26 @@ left_blocks counts outer n bs h = ap (λ (l : List ℕ). left (blocks l bs)) (in
 pub left_full : (counts outer : List ℕ) (n : ℕ) (bs : List Binding) → counts ≡ outer ++ n ∷ [] → sum (reverse counts) ≡ length bs
     → sum (reverse outer) ≡ length (drop n bs)
 left_full counts outer n bs h full = outer_full n (reverse outer) bs (sym (ap sum (innermost_first counts outer n h)) ∙ full)
+
+-- what the blocks outside the innermost one say of a name
+pub outside : (counts : List ℕ) (n : ℕ) (ns : List ℕ) (bs : List Binding) (q : List ℕ) → counts ≡ n ∷ ns → sum counts ≡ length bs
+    → meaning_of (left (blocks counts bs)) q ≡ unwrap_or (found_in (drop n bs) q) unknown
+outside counts n ns bs q e h =
+    ap (λ (l : List ℕ). meaning_of (left (blocks l bs)) q) e
+    ∙ meaning ns (drop n bs) q (outer_full n ns bs (sym (ap sum e) ∙ h))
+
+-- where there is no block, nothing is known outside
+pub outside_none : (counts : List ℕ) (bs : List Binding) (q : List ℕ) → counts ≡ [] → sum counts ≡ length bs
+    → meaning_of (left (blocks counts bs)) q ≡ unwrap_or (found_in (drop 0 bs) q) unknown
+outside_none counts [] q e h = ap (λ (l : List ℕ). meaning_of (left (blocks l [])) q) e
+outside_none counts (b ∷ bs) q e h = let none : sum counts ≡ 0 = ap sum e in absurd (omega arith)
+
+-- a list without a last number is empty
+pub none_last : (xs : List ℕ) → None ≡ slice_get xs (length xs - 1) → xs ≡ []
+none_last [] h = refl
+none_last (x ∷ xs) h =
+    let there : slice_get (x ∷ xs) (length (x ∷ xs) - 1) ≡ Some (get_or (x ∷ xs) (length (x ∷ xs) - 1) x) =
+    slice_get-get_or (x ∷ xs) (length (x ∷ xs) - 1) x (omega arith)
+    in
+    let never : None ≡ Some (get_or (x ∷ xs) (length (x ∷ xs) - 1) x) = h ∙ there in
+    absurd cc

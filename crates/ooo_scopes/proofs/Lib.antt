@@ -1,3 +1,4 @@
 pub mod PlaceMaps
 pub mod Bindings
 pub mod InBlocks
+pub mod Behind

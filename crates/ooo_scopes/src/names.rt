@@ -1,4 +1,4 @@
-ghost use Rattle.std.specs.Prelude.{◌≡◌, ◌∷◌, [], ◌<◌, ◌^◌, length, drop, OnOk, OnErr};
+ghost use Rattle.std.specs.Prelude.{◌≡◌, ◌∷◌, [], ◌<◌, ◌-◌, ◌^◌, length, drop, OnOk, OnErr};
 ghost use Rattle.std.specs.Option.{unwrap_or};
 ghost use Rattle.ooo_checked.specs.Scopes.{found_in, unknown};
 ghost use Rattle.ooo_scopes.specs.Names.{place_in};
@@ -81,6 +81,37 @@ impl Names {
         match places::place(&self.places, name) {
             Some(place) => match self.declared.get(place) {
                 Some(latest) => latest.denotes,
+                None => UNKNOWN,
+            },
+            None => UNKNOWN,
+        }
+    }
+
+    // The place of the latest declaration of a name among the earliest ones, of which there are this many.
+    fn place_among(&self, kept: usize, name: &[u8]) -> Option<usize>
+        ensures { result ≡ place_in (drop (length self.now - kept) self.now) name.now }
+    {
+        let mut place = places::place(&self.places, name);
+        'hidden: while let Some(at) = place {
+            if at < kept {
+                return place;
+            }
+            place = match self.declared.get(at) {
+                Some(hiding) => hiding.hides,
+                None => None,
+            };
+        }
+        None
+    }
+
+    /// What a name denoted before the latest declarations, of which there are this many.
+    pub(crate) fn denotes_before(&self, latest: usize, name: &[u8]) -> Denotation
+        ensures { result ≡ unwrap_or (found_in (drop latest self.now) name.now) unknown }
+    {
+        let kept = self.len().saturating_sub(latest);
+        match self.place_among(kept, name) {
+            Some(place) => match self.declared.get(place) {
+                Some(found) => found.denotes,
                 None => UNKNOWN,
             },
             None => UNKNOWN,

@@ -77,6 +77,16 @@ impl Scopes {
         self.names.denotes(name)
     }
 
+    /// What a name denotes outside the innermost block: [`ooo_checked::Thing::Nothing`] if it is not known there.
+    pub fn denotes_outside(&self, name: &[u8]) -> Denotation
+        ensures { result ≡ meaning_of (left self.now) name.now }
+    {
+        match self.counts.last() {
+            Some(count) => self.names.denotes_before(*count, name),
+            None => self.names.denotes_before(0, name),
+        }
+    }
+
     /// Whether the innermost block declares a name.
     pub fn is_declared_here(&self, name: &[u8]) -> bool
         ensures { result ≡ is_declared_here self.now name.now }

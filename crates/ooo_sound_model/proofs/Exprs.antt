@@ -146,7 +146,7 @@ module _ (b : Bound) (n : Numbering) (l : Leave) where
   pub name_fits : (d : Denotation) (t : Thing) → d.thing ≡ t → MeansThing b n l d t → FitsExpr b (name_of n d)
   name_fits d t is m = subst (λ t'. FitsExpr b (elim t' [
     | thing.FileConstant k ↦ bound.Constant (constant_at n.file k d.number)
-    | thing.Fixed k ↦ bound.Constant (constant_at n.members k d.number)
+    | thing.Fixed k is_static ↦ bound.Constant (constant_at n.members k d.number)
     | thing.Variable k ↦ bound.Variable (variable_of n d)
     | thing.Signal k ↦ bound.Signal (channel_of n d)
     | thing.SignalPort direction k ↦ bound.Signal (channel_of n d)
@@ -157,7 +157,7 @@ module _ (b : Bound) (n : Numbering) (l : Leave) where
     where
       at : (t : Thing) → MeansThing b n l d t → FitsExpr b (elim t [
         | thing.FileConstant k ↦ bound.Constant (constant_at n.file k d.number)
-        | thing.Fixed k ↦ bound.Constant (constant_at n.members k d.number)
+        | thing.Fixed k is_static ↦ bound.Constant (constant_at n.members k d.number)
         | thing.Variable k ↦ bound.Variable (variable_of n d)
         | thing.Signal k ↦ bound.Signal (channel_of n d)
         | thing.SignalPort direction k ↦ bound.Signal (channel_of n d)
@@ -166,7 +166,7 @@ module _ (b : Bound) (n : Numbering) (l : Leave) where
         | _ ↦ nothing
       ])
       at (thing.FileConstant k) m = constant_fits b _
-      at (thing.Fixed k) m = constant_fits b _
+      at (thing.Fixed k is_static) m = constant_fits b _
       at (thing.Variable k) m = variable_fits b _ m
       at (thing.Signal k) m = signal_fits b _ k m
       at (thing.SignalPort direction k) m = signal_fits b _ k m

@@ -24,7 +24,7 @@ use Rattle.ooo_sound_text.proofs.Entries.{Entry, entries_by, entry}
 -- left out, and an instance stands for any
 abbrev pub IsAs : Thing → Thing → Type 0
 IsAs (thing.Variable k) t = thing.Variable k ≡ t
-IsAs (thing.Fixed k) t = thing.Fixed k ≡ t
+IsAs (thing.Fixed k is_static) t = thing.Fixed k is_static ≡ t
 IsAs (thing.Array k) t = thing.Array k ≡ t
 IsAs (thing.FixedArray k) t = thing.FixedArray k ≡ t
 IsAs (thing.Signal k) t = thing.Signal k ≡ t

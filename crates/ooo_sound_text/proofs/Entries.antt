@@ -49,7 +49,7 @@ entries_by word t xs = map (λ x. entry (word x) (t x)) xs
 -- the names that a member declares, where its scope says what its words mean
 abbrev pub entries_in : Scope → Member → List Entry
 entries_in s written.Public = []
-entries_in s (written.Constant c) = entry c.name (thing.Fixed (kind_written c.form.form)) ∷ []
+entries_in s (written.Constant c) = entry c.name (thing.Fixed (kind_written c.form.form) c.is_static) ∷ []
 entries_in s (written.HasProcess w) = []
 entries_in s (written.Fields f) =
     entries_by (λ (x : Field). x.name) (λ (x : Field). field_thing f.is_const (kind_written f.form.form) x.form) f.fields

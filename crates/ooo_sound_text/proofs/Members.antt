@@ -63,7 +63,7 @@ module _ (file whole : Scope) where
       IsOn file (member_names (size_of file) m s).scope (es ++ entries_in whole m)
   member_step written.Public s es on right = subst (IsOn file s) (sym (append-nil es)) on
   member_step (written.Constant c) s es on right =
-      let t = thing.Fixed (kind_written c.form.form) in name_step file t t c.name refl s es on right
+      let t = thing.Fixed (kind_written c.form.form) c.is_static in name_step file t t c.name refl s es on right
   member_step (written.HasProcess w) s es on right = subst (IsOn file s) (sym (append-nil es)) on
   member_step (written.Fields f) s es on right =
       let k = kind_written f.form.form in

@@ -112,7 +112,7 @@ function_thing : (m : CheckedMember) (i params : ℕ) → slice_get (things_in m
     IsSome (as_function (Some m))
 function_thing member.Public i params h = absurd cc
 function_thing (member.Constant c) i params h =
-    let e : thing.Fixed (kind_written c.form.form) ≡ thing.Function None params = only_at _ _ i h in absurd cc
+    let e : thing.Fixed (kind_written c.form.form) c.is_static ≡ thing.Function None params = only_at _ _ i h in absurd cc
 function_thing (member.HasProcess w) i params h = absurd cc
 function_thing (member.Fields x) i params h =
     let r = mapped_at _ x.fields i _ h in absurd (no_field x.is_const (kind_written x.form.form) r.0.form params r.1)

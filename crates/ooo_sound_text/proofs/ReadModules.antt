@@ -11,13 +11,12 @@ use Rattle.ooo_checked.specs.declared.module.CheckedMember.{CheckedMember}
 use Rattle.ooo_checked.specs.declared.module.CheckedSetup.{CheckedSetup}
 use Rattle.ooo_checked.specs.declared.module.CheckedSetup.TheVariants as setup
 use Rattle.ooo_checked.specs.declared.stat.CheckedEvent.{CheckedEvent}
-use Rattle.ooo_checked.specs.Exprs.{resolved}
 use Rattle.ooo_checked.specs.Notes.{Note, all_notes, trees}
 use Rattle.ooo_checked.specs.Scopes.{Scope, entered, size_of}
 use Rattle.ooo_checked.specs.Stats.{events_of}
 use Rattle.ooo_members.specs.declared.known.FunctionFacts.{FunctionFacts}
 use Rattle.ooo_members.specs.declared.known.Sofar.{Sofar}
-use Rattle.ooo_members.specs.Constructors.{after_process, setup_of}
+use Rattle.ooo_members.specs.Constructors.{after_process, in_module, setup_of}
 use Rattle.ooo_members.specs.Declarations.{members_names}
 use Rattle.ooo_members.specs.Known.{Modules, not_registered, with_process}
 use Rattle.ooo_members.specs.Members.{functions_of, members_of}
@@ -111,10 +110,10 @@ method_registered : (modules : Modules) (scope : Scope) (x : Setup) (before : So
     (setup_of modules scope x before).tree ≡ setup.Method at r → AreRight (setup_of modules scope x before).notes →
     r.denotes.number < length before.registered → IsMethod (setup_of modules scope x before).behind.registered r.denotes.number
 method_registered modules scope (text.Method at' w) before at r is right low =
-    let same : resolved scope w ≡ r = same_method at' at (resolved scope w) r is in
+    let same : in_module scope w ≡ r = same_method at' at (in_module scope w) r is in
     subst (λ (q : Resolved). q.denotes.number < length before.registered →
-    IsMethod (with_process before.registered process.Method (resolved scope w).denotes) q.denotes.number) same
-    (method_is before.registered (resolved scope w) right) low
+    IsMethod (with_process before.registered process.Method (in_module scope w).denotes) q.denotes.number) same
+    (method_is before.registered (in_module scope w) right) low
 method_registered modules scope _ before at r is right low = absurd cc
 
 pub methods_dont_wait : MethodsDontWait

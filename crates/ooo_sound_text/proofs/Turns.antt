@@ -17,12 +17,11 @@ use Rattle.ooo_checked.specs.declared.denotation.Denotation.{Denotation}
 use Rattle.ooo_checked.specs.declared.denotation.Resolved.{Resolved}
 use Rattle.ooo_checked.specs.declared.denotation.Thing.{Thing}
 use Rattle.ooo_checked.specs.declared.denotation.Thing.TheVariants as thing
-use Rattle.ooo_checked.specs.Exprs.{resolved}
 use Rattle.ooo_checked.specs.Notes.{Note, Breaks, breach_when}
 use Rattle.ooo_checked.specs.Scopes.{Scope, entered}
 use Rattle.ooo_members.specs.declared.known.Registration.{Registration}
 use Rattle.ooo_members.specs.declared.known.Sofar.{Sofar}
-use Rattle.ooo_members.specs.Constructors.{constructor_of, head_of, process_notes, setup_of, setups_of}
+use Rattle.ooo_members.specs.Constructors.{constructor_of, head_of, in_module, process_notes, setup_of, setups_of}
 use Rattle.ooo_members.specs.Known.{Modules, Registered, not_registered, is_process, registered_as, registration_at, with_process}
 use Rattle.ooo_members.specs.Members.{member_of, members_of}
 use Rattle.ooo_sound_text.specs.Right.{AreRight}
@@ -124,8 +123,8 @@ method_is rs r h low = method_by rs r r.denotes.thing h low
 module _ (ms : Modules) where
   pub setup_leads : (inside : Scope) (x : Setup) (before : Sofar) →
       Leads before.registered (setup_of ms inside x before).behind.registered
-  setup_leads inside (setup.Thread at w) before = process_leads before.registered process.Thread (resolved inside w).denotes
-  setup_leads inside (setup.Method at w) before = process_leads before.registered process.Method (resolved inside w).denotes
+  setup_leads inside (setup.Thread at w) before = process_leads before.registered process.Thread (in_module inside w).denotes
+  setup_leads inside (setup.Method at w) before = process_leads before.registered process.Method (in_module inside w).denotes
   setup_leads inside _ before = stays before.registered
 
   pub setups_lead : (inside : Scope) (xs : List Setup) (before : Sofar) →

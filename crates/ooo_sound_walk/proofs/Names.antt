@@ -362,13 +362,13 @@ form_adds : (v : Viewed) (is_const : Bool) (j : Kind) (word : Word) (f : Checked
 form_adds v true j word form.Plain w h =
     let name = full_name w word.name in
     let initial = initial_here v w in
-    fixed_adds (thing.Fixed j) (meaning.Constant (start_value j None initial)) w (after_start name None initial w)
+    fixed_adds (thing.Fixed j false) (meaning.Constant (start_value j None initial)) w (after_start name None initial w)
     (start_here name None initial w w.here refl) tt
 form_adds v true j word (form.Value e) w h =
     let name = full_name w word.name in
     let initial = initial_here v w in
     let declared = Some (evaluated (known_here w) e) in
-    fixed_adds (thing.Fixed j) (meaning.Constant (start_value j declared initial)) w (after_start name declared initial w)
+    fixed_adds (thing.Fixed j false) (meaning.Constant (start_value j declared initial)) w (after_start name declared initial w)
     (start_here name declared initial w w.here refl) tt
 form_adds v false j word form.Plain w h = scalar_adds j word None (initial_here v w) w
 form_adds v false j word (form.Value e) w h = scalar_adds j word (Some (evaluated (known_here w) e)) (initial_here v w) w
@@ -438,14 +438,14 @@ event_adds r w h =
     one_added w _ thing.Event (meaning.Event (length w1.events)) (behind w w1 _ (object_here r.word.position _ w))
     (record { number = length w1.events; means = refl; there = at_end w1.events event.Own })
 
-constant_adds : (v : Viewed) (c : CheckedConstant) → AddsNames (constant_of v c) (thing.Fixed (kind_written c.form.form) ∷ [])
+constant_adds : (v : Viewed) (c : CheckedConstant) → AddsNames (constant_of v c) (thing.Fixed (kind_written c.form.form) c.is_static ∷ [])
 constant_adds v c w h =
     let name = full_name w c.name.word.name in
     let j = kind_written c.form.form in
     let known = constants_to c.is_static w in
     let declared = Some (evaluated known c.value) in
     let initial = option_evaluated known (initialised v w) in
-    fixed_adds (thing.Fixed j) (meaning.Constant (start_value j declared initial)) w (after_start name declared initial w)
+    fixed_adds (thing.Fixed j c.is_static) (meaning.Constant (start_value j declared initial)) w (after_start name declared initial w)
     (start_here name declared initial w w.here refl) tt
 
 -- ---- instances
@@ -665,7 +665,7 @@ module _ (file : Filed) where
     adds = event_adds r;
   }
 
-  constant_step : (v : Viewed) (c : CheckedConstant) → Step (constant_of v c) (thing.Fixed (kind_written c.form.form) ∷ [])
+  constant_step : (v : Viewed) (c : CheckedConstant) → Step (constant_of v c) (thing.Fixed (kind_written c.form.form) c.is_static ∷ [])
   constant_step v c = record {
     all = quiet_fills (constant_of v c) (λ w. constant_keeps (GrowsTo w) (kept_grows w) v c w (stays w))
         (λ w. constant_keeps (λ u. u.instances ≡ w.instances) (same_instances w.instances) v c w refl);

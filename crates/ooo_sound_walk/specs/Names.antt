@@ -38,7 +38,7 @@ use Rattle.ooo_walk.specs.Texts.{file_of, walk_of}
 abbrev pub field_thing : (is_const : Bool) → Kind → CheckedFieldForm → Thing
 field_thing true k (form.Length e) = thing.FixedArray k
 field_thing false k (form.Length e) = thing.Array k
-field_thing true k _ = thing.Fixed k
+field_thing true k _ = thing.Fixed k false
 field_thing false k _ = thing.Variable k
 
 -- what a channel is
@@ -49,7 +49,7 @@ channel_thing channel_word.Fifo k = thing.Fifo k
 -- what the names are that a member declares, in the order of the text; what a function gives is left out
 abbrev pub things_in : CheckedMember → List Thing
 things_in member.Public = []
-things_in (member.Constant c) = thing.Fixed (kind_written c.form.form) ∷ []
+things_in (member.Constant c) = thing.Fixed (kind_written c.form.form) c.is_static ∷ []
 things_in (member.HasProcess w) = []
 things_in (member.Fields x) = map (λ (f : CheckedField). field_thing x.is_const (kind_written x.form.form) f.form) x.fields
 things_in (member.Ports p) = map (λ (r : Resolved). port_form p.port (kind_written p.form.form)) p.names
