@@ -665,6 +665,8 @@ sc_module(\"m\") => ok
 num(fixed + shared), que(fixed), big(\"b\", LIMIT, fixed) => ok
 none(1) => UnknownName 2:1
 list(1) => WrongKind 2:1
+shared(1) => WrongKind 2:1
+num(1), shared(2) => WrongKind 2:9
 table(1) => WrongKind 2:1
 act(1) => WrongKind 2:1
 act() => WrongKind 2:1
@@ -860,7 +862,10 @@ M(sc_module_name n, int a, int a) : sc_module(n) {} => DeclaredTwice 2:32
 int v; M(sc_module_name n, int v) : sc_module(n) { v = 1; } => WrongKind 2:52
 int v; M(sc_module_name v) : sc_module(v), v(v) {} => WrongKind 2:46
 int v; M(sc_module_name n) : sc_module(n) { v = n; } => WrongKind 2:49
-void f() {} M(sc_module_name n, int f) : sc_module(n) { SC_THREAD(f); } => WrongKind 2:67
+void f() {} M(sc_module_name n, int f) : sc_module(n) { SC_THREAD(f); } => ok
+void f() {} M(sc_module_name f) { SC_METHOD(f); SC_THREAD(f); } => DeclaredTwice 2:59
+M(sc_module_name n, int f) : sc_module(n) { SC_THREAD(f); } => UnknownName 2:55
+int v; M(sc_module_name n, int f) : sc_module(n) { SC_METHOD(v); } => WrongKind 2:62
 void f() {} sc_event e; M(sc_module_name n, int e) : sc_module(n) { SC_THREAD(f); sensitive << e; } => WrongKind 2:96
 int a[z]; M(sc_module_name n, int z) : sc_module(n) {} => UnknownName 2:7
 M(sc_module_name n, int z) : sc_module(n) {} void f() { z = 1; } => UnknownName 2:57

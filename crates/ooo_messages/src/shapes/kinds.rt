@@ -207,6 +207,10 @@ pub static WRONG_KIND: &[Shape] = &[
         hint: "a signal has no elements: shift and mask its value, as '(s >> 3) & 1'",
     },
     Shape {
+        tokens: ") : ^ <variable> (",
+        hint: "a static constant has its value where it is declared: 'static const int SIZE = 4;'",
+    },
+    Shape {
         tokens: "^ <variable> (",
         hint: "it is a variable and no function: leave the brackets out",
     },
