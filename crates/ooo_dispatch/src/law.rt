@@ -1,0 +1,82 @@
+//! What holds of the definitions: functions that do nothing, whose clauses are laws.
+
+ghost use Rattle.std.specs.Prelude.{◌≡◌, ℕ, ◌<◌, List, [], Option, Some, slice_get};
+ghost use Rattle.ooo_time.specs.declared.stamp.Stamp.{Stamp as StampSpec};
+ghost use Rattle.ooo_code.specs.declared.design.Proc.{Proc as ProcSpec};
+ghost use Rattle.ooo_code.specs.declared.segment.Segment.{Segment as SegmentSpec};
+ghost use Rattle.ooo_code.specs.declared.activation.Frame.{Frame as FrameSpec};
+ghost use Rattle.ooo_code.specs.Dependence.{DidTheSame};
+ghost use Rattle.ooo_code.specs.Nodes.{by_nodes};
+ghost use Rattle.ooo_code.specs.Outcomes.{View};
+ghost use Rattle.ooo_code.specs.Segments.{Accesses};
+ghost use Rattle.ooo_code.specs.Sound.{IsSound};
+ghost use Rattle.ooo_schedules.specs.Design.{only};
+ghost use Rattle.ooo_schedules.specs.Model.{Act, Front, In, committed, dispatched};
+ghost use Rattle.ooo_schedules.specs.Program.{Sound, sees};
+ghost use Rattle.ooo_schedules.specs.Sequence.{Starts};
+ghost use Rattle.ooo_schedules.specs.Tables.{EveryScheduleOf, program};
+ghost use Rattle.ooo_dispatch.specs.declared.reads.Reads.{Reads as ReadsSpec};
+ghost use Rattle.ooo_dispatch.specs.Enough.{ComeBefore, Descend, Shows};
+ghost use Rattle.ooo_dispatch.specs.Rules.{Rules, reads_at, tables, view_at};
+ghost use Rattle.ooo_dispatch.specs.Boards.{AreRules, Board, IsAllowed, IsLawful, model};
+
+use crate::reads::Reads;
+
+/// Nothing was done: that is lawful.
+pub fn begins()
+    ensures { (r : Rules) → IsLawful r (record { log = []; out = [] }) }
+{}
+
+/// Where a process is allowed, or a job is out, a lawful board goes on.
+pub fn goes_on()
+    ensures dispatched { (r : Rules) (b : Board r) (p : ℕ) (f : Front StampSpec) →
+        IsLawful r b → IsAllowed r b p f → IsLawful r (dispatched (model r) b p f) }
+    ensures committed { (r : Rules) (b : Board r) (j : Act StampSpec ReadsSpec) →
+        IsLawful r b → In j b.out → IsLawful r (committed (model r) b j) }
+{}
+
+/// The tables of a sound design say of its activations what the theorem on schedules asks: what they call their segments
+/// call, their notifications and waits are along edges no longer than these, and what they share their segments share.
+pub fn tables_are_sound()
+    ensures { (r : Rules) → AreRules r → IsSound r.design → Sound (program (tables r)) }
+{
+    ooo_code::law::does_as_said();
+}
+
+/// Each process of a design is ready at time zero, or waits on its static events since before it.
+pub fn processes_start()
+    ensures { (r : Rules) → AreRules r → 0 < r.limits.deltas → Starts (program (tables r)) }
+{}
+
+/// Every lawful schedule of a sound design makes the activations of its sequential run alike, or activations beyond all of
+/// it; and the rest of the theorem on schedules.
+pub fn every_schedule()
+    ensures { (r : Rules) → AreRules r → IsSound r.design → 0 < r.limits.deltas →
+        EveryScheduleOf (tables r) }
+{
+    tables_are_sound();
+    processes_start();
+    ooo_schedules::law::every_schedule::<Reads>();
+}
+
+/// Of the activations before its place, a segment reads those that it may see; what they make of all that it touches is
+/// what all of them make. So it does what it would do on any view that shows that.
+pub fn jobs_read_enough()
+    ensures shows { (r : Rules) (p g : ℕ) (process : ProcSpec) (segment : SegmentSpec) (s : StampSpec)
+        (last : Option (Act StampSpec ReadsSpec)) (ys : List (Act StampSpec ReadsSpec)) →
+        AreRules r → IsSound r.design → slice_get r.segments g ≡ Some segment →
+        segment.process ≡ p → slice_get r.design.processes p ≡ Some process →
+        Descend r ys → ComeBefore p s ys →
+        Shows r process segment.entry ys
+        (view_at s (reads_at r p g s last (only (sees (program (tables r)) p g s) ys))) }
+    ensures does { (r : Rules) (p : ℕ) (process : ProcSpec) (frame : FrameSpec)
+        (ys : List (Act StampSpec ReadsSpec)) (v w : View) →
+        slice_get r.design.processes p ≡ Some process → v.stamp ≡ w.stamp →
+        Shows r process frame.entry ys v → Shows r process frame.entry ys w →
+        DidTheSame (Accesses r.design process frame.entry)
+        (by_nodes r.design r.limits.statements p frame v)
+        (by_nodes r.design r.limits.statements p frame w) }
+{
+    ooo_code::law::does_as_said();
+    ooo_code::law::reads_what_is_touched();
+}

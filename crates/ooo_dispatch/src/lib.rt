@@ -1,0 +1,16 @@
+//! The board of a design, as definitions and laws: which steps are lawful, which process may be dispatched, and when it is
+//! over. It has no running code.
+//!
+//! `specs/Rules` says what a design is to the rule of out-of-order simulation: its segments, what they touch, which clash
+//! and which follow which, and what an activation reads and does, as a function of the activations before it.
+//! `specs/Boards` says with that what a board is, when a process is allowed, which boards lawful steps lead to, and when
+//! one is over.
+//!
+//! Proved, in module [`law`]: that the edges, accesses and clashes of a sound design say of its activations what the theorem
+//! on schedules (of ooo_schedules) asks, and so that theorem for designs.
+#![tactic(auto)]
+
+pub mod law;
+mod reads;
+
+pub use reads::Reads;
