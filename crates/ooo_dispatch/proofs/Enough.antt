@@ -27,8 +27,7 @@ use Rattle.ooo_channels.specs.Cycles.{acted, channel_in, readable, writable}
 use Rattle.ooo_channels.specs.Operations.{is_on}
 use Rattle.ooo_schedules.specs.Design.{only}
 use Rattle.ooo_schedules.specs.Model.{Act, In}
-use Rattle.ooo_schedules.proofs.Programs.{before_yes}
-use Rattle.ooo_schedules.proofs.Reaches.{irreflexive, transitive}
+use Rattle.ooo_dispatch.proofs.Stamps.{before_yes, irreflexive, transitive}
 use Rattle.ooo_dispatch.specs.declared.reads.Reads as job
 use Rattle.ooo_dispatch.specs.Boards.{AreRules}
 use Rattle.ooo_dispatch.specs.Enough.{ComeBefore, Descend, Shows, signal_shown}

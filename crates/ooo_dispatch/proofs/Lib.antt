@@ -19,3 +19,4 @@ pub mod Channels
 pub mod Sights
 pub mod Shown
 pub mod Enough
+pub mod Stamps
