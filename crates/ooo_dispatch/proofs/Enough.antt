@@ -27,7 +27,6 @@ use Rattle.ooo_channels.specs.Cycles.{acted, channel_in, readable, writable}
 use Rattle.ooo_channels.specs.Operations.{is_on}
 use Rattle.ooo_schedules.specs.Design.{only}
 use Rattle.ooo_schedules.specs.Model.{Act, In}
-use Rattle.ooo_dispatch.proofs.Stamps.{before_yes, irreflexive, transitive}
 use Rattle.ooo_dispatch.specs.declared.reads.Reads as job
 use Rattle.ooo_dispatch.specs.Boards.{AreRules}
 use Rattle.ooo_dispatch.specs.Enough.{ComeBefore, Descend, Shows, signal_shown}
@@ -39,6 +38,7 @@ use Rattle.ooo_dispatch.proofs.Cells.{cells_kept, seen_by, variables_at, variabl
 use Rattle.ooo_dispatch.proofs.Channels.{on_channel}
 use Rattle.ooo_dispatch.proofs.Shown.{IsOfKind, Parted, channel_kept, put_neutral, shown_same, signal_neutral, take_neutral}
 use Rattle.ooo_dispatch.proofs.Sights.{puts_at, signal_at, takes_at}
+use Rattle.ooo_dispatch.proofs.Stamps.{before_yes, irreflexive, transitive}
 
 abbrev Activation : Type 0
 Activation = Act Stamp job.Reads

@@ -14,9 +14,9 @@ pub mod Accessed
 pub mod Following
 pub mod Acting
 pub mod Sounds
+pub mod Stamps
 pub mod Cells
 pub mod Channels
 pub mod Sights
 pub mod Shown
 pub mod Enough
-pub mod Stamps

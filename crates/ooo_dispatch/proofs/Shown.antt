@@ -17,12 +17,12 @@ use Rattle.ooo_code.specs.Channels.{Channel, IsSignal, IsFifo, first_channel, up
 use Rattle.ooo_channels.specs.Operations.{Operations, no_operations, after_effect, after_effects, is_on}
 use Rattle.ooo_channels.specs.Cycles.{Cycle, acted, channel_in, cycle_after, cycle_at, cycle_of, cycle_step, first_cycle, later_channel, readable, writable}
 use Rattle.ooo_meaning.specs.World.{entries_of, next_delta, same_stamp}
-use Rattle.ooo_dispatch.proofs.Stamps.{irreflexive, is_yes}
 use Rattle.ooo_schedules.specs.Design.{only}
 use Rattle.ooo_schedules.specs.Model.{Act, In}
 use Rattle.ooo_dispatch.specs.declared.reads.Reads.{Reads}
 use Rattle.ooo_dispatch.specs.Enough.{signal_shown}
 use Rattle.ooo_dispatch.specs.Rules.{Rules, deed_of, operations_of}
+use Rattle.ooo_dispatch.proofs.Stamps.{irreflexive, is_yes}
 
 not_itself : (s : Stamp) → is_before s s ≡ false
 not_itself s = at (is_before s s) refl
