@@ -94,7 +94,7 @@ no_signal_kind b e h = no_signal_by b.kind b.value e h
 
 -- ---- what there is has a number below the count
 
-below : {A B : Type 0} (f : Option A → Option B) (xs : List A) (n : ℕ) → f None ≡ None → IsSome (f (slice_get xs n)) → n < length xs
+pub below : {A B : Type 0} (f : Option A → Option B) (xs : List A) (n : ℕ) → f None ≡ None → IsSome (f (slice_get xs n)) → n < length xs
 below {A} f xs n none h = at (slice_get xs n) refl h
   where
     at : (o : Option A) → slice_get xs n ≡ o → IsSome (f o) → n < length xs

@@ -37,7 +37,7 @@ not_itself s = at (is_before s s) refl
 abbrev pub moved : Stamp → ℕ → List Effect → Cycle → Cycle
 moved s c fs x = fold (λ y f. cycle_step c y (record { at = s; effect = f })) x fs
 
-one_more : (s : Stamp) (ops : Operations) (f : Effect) (c : ℕ) → cycle_of (after_effect s ops f) c ≡ cycle_step c (cycle_of ops c) (record { at = s; effect = f })
+pub one_more : (s : Stamp) (ops : Operations) (f : Effect) (c : ℕ) → cycle_of (after_effect s ops f) c ≡ cycle_step c (cycle_of ops c) (record { at = s; effect = f })
 unfolding cycle_of
 one_more s ops f c = fold-append (cycle_step c) (first_cycle (slice_get ops.channels c)) ops.applied (record { at = s; effect = f } ∷ [])
 
@@ -45,7 +45,7 @@ pub cycle_moved : (s : Stamp) (ops : Operations) (fs : List Effect) (c : ℕ) �
 cycle_moved s ops [] c = refl
 cycle_moved s ops (f ∷ fs) c = cycle_moved s (after_effect s ops f) fs c ∙ ap (moved s c fs) (one_more s ops f c)
 
-step_off : (s : Stamp) (c : ℕ) (f : Effect) (x : Cycle) → is_on c f ≡ false → cycle_step c x (record { at = s; effect = f }) ≡ x
+pub step_off : (s : Stamp) (c : ℕ) (f : Effect) (x : Cycle) → is_on c f ≡ false → cycle_step c x (record { at = s; effect = f }) ≡ x
 step_off s c f x off = ap (λ b. if b then cycle_after x (record { at = s; effect = f }) else x) off
 
 -- none of the effects is on the channel
@@ -72,7 +72,7 @@ stays_now : (s : Stamp) (y : Cycle) → is_before y.stamp s ≡ false → (cycle
 stays_now s y e = ap (λ b. (let z : Cycle = if b then next_cycle s y else y in z.channel)) e
 
 -- an effect at the stamp acts on the channel of the stamp's cycle
-step_on : (s : Stamp) (c : ℕ) (f : Effect) (x : Cycle) → is_on c f ≡ true → (cycle_at s (cycle_step c x (record { at = s; effect = f }))).channel ≡ acted f (cycle_at s x).channel
+pub step_on : (s : Stamp) (c : ℕ) (f : Effect) (x : Cycle) → is_on c f ≡ true → (cycle_at s (cycle_step c x (record { at = s; effect = f }))).channel ≡ acted f (cycle_at s x).channel
 step_on s c f x on =
     ap (λ y. (cycle_at s y).channel) (ap (λ b. if b then cycle_after x (record { at = s; effect = f }) else x) on)
     ∙ stays_now s (cycle_after x (record { at = s; effect = f })) (here_now s x)
@@ -229,7 +229,7 @@ first_kept b = at b.kind
     at channel.Signal = tt
     at channel.Fifo = tt
 
-started : (channels : List BoundChannel) (events : List BoundEvent) (c : ℕ) → cycle_of (no_operations channels events) c ≡ first_cycle (slice_get channels c)
+pub started : (channels : List BoundChannel) (events : List BoundEvent) (c : ℕ) → cycle_of (no_operations channels events) c ≡ first_cycle (slice_get channels c)
 unfolding cycle_of
 started channels events c = refl
 

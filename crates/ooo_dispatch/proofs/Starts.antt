@@ -44,7 +44,7 @@ module _ (r : Rules) (rules : AreRules r) where
   if_segment true x y g h k = h
   if_segment false x y g h k = k
 
-  first_segment : (g : ℕ) (x : Proc) → (start_wait g x).segment ≡ g
+  pub first_segment : (g : ℕ) (x : Proc) → (start_wait g x).segment ≡ g
   first_segment g x = if_segment x.initialize _ _ g refl refl
 
   pub start_owner : (q : ℕ) (w : Wait Stamp) → start_of r q ≡ Some w → process_of r w.segment ≡ q

@@ -1,3 +1,4 @@
 pub mod Rules
 pub mod Boards
 pub mod Enough
+pub mod Scheduler

@@ -13,11 +13,14 @@ ghost use Rattle.ooo_code.specs.Sound.{IsSound};
 ghost use Rattle.ooo_schedules.specs.Design.{only};
 ghost use Rattle.ooo_schedules.specs.Model.{Act, Front, In, committed, dispatched};
 ghost use Rattle.ooo_schedules.specs.Program.{Sound, sees};
-ghost use Rattle.ooo_schedules.specs.Sequence.{Starts};
+ghost use Rattle.ooo_meaning.specs.Runs.{IsSequentialRun};
+ghost use Rattle.ooo_meaning.specs.Sequence.{Result};
+ghost use Rattle.ooo_schedules.specs.Sequence.{RunsTo, Starts, begin};
 ghost use Rattle.ooo_schedules.specs.Tables.{EveryScheduleOf, program};
 ghost use Rattle.ooo_dispatch.specs.declared.reads.Reads.{Reads as ReadsSpec};
 ghost use Rattle.ooo_dispatch.specs.Enough.{ComeBefore, Descend, Shows};
 ghost use Rattle.ooo_dispatch.specs.Rules.{Rules, reads_at, tables, view_at};
+ghost use Rattle.ooo_dispatch.specs.Scheduler.{AgreesWith, AreMadeAs};
 ghost use Rattle.ooo_dispatch.specs.Boards.{AreRules, Board, IsAllowed, IsLawful, model};
 
 use crate::reads::Reads;
@@ -79,4 +82,32 @@ pub fn jobs_read_enough()
 {
     ooo_code::law::does_as_said();
     ooo_code::law::reads_what_is_touched();
+}
+
+/// The sequential run of a sound design makes the steps of the run of which the theorem speaks: there is a log of just its
+/// activations, at the same places, with the same output, effects and ends.
+pub fn scheduler_makes_steps()
+    ensures { (r : Rules) (result : Result) → AreRules r → IsSound r.design → 0 < r.limits.deltas →
+        IsSequentialRun r.design r.limits result →
+        (log : List (Act StampSpec ReadsSpec)) ×
+        RunsTo (program (tables r)) (begin (program (tables r))) [] log ×
+        AreMadeAs r result.made log }
+{
+    ooo_code::law::does_as_said();
+    ooo_code::law::reads_what_is_touched();
+    ooo_code::law::changes_what_is_touched();
+    tables_are_sound();
+    processes_start();
+    ooo_schedules::law::every_step::<Reads>();
+}
+
+/// Whatever lawful steps lead to a board, its jobs are the activations of the sequential run, as far as that goes; and once
+/// it is over, it reports just these.
+pub fn every_board_agrees()
+    ensures { (r : Rules) (result : Result) (b : Board r) → AreRules r → IsSound r.design →
+        0 < r.limits.deltas → IsSequentialRun r.design r.limits result → IsLawful r b →
+        AgreesWith r b result }
+{
+    scheduler_makes_steps();
+    every_schedule();
 }

@@ -7,7 +7,8 @@
 //! one is over.
 //!
 //! Proved, in module [`law`]: that the edges, accesses and clashes of a sound design say of its activations what the theorem
-//! on schedules (of ooo_schedules) asks, and so that theorem for designs.
+//! on schedules (of ooo_schedules) asks, and so that theorem for designs; and that the sequential run of a design makes the
+//! steps of the run of which the theorem speaks.
 #![tactic(auto)]
 
 pub mod law;

@@ -1,6 +1,6 @@
 -- The sequential run by cycles is the run that takes the front of least place, and ends where a board is over.
 use Rattle.std.proofs.Common.{◌≡◌, ◌≢◌, ℕ, suc, ◌<◌, ◌≤◌, ◌⊎◌, inl, inr, ⊎_elim, Bool, true, false, [], ◌∷◌, Option, Some, None, refl, sym, ap, ◌∙◌, subst, arith}
-use Rattle.ooo_schedules.specs.Model.{Front, In, last, Model, ActOf, Log, Laws, Sequential, Open, Kept, IsOver, IsLeast, Earlier}
+use Rattle.ooo_schedules.specs.Model.{Front, last, Model, ActOf, Log, Laws, Sequential, Open, Kept, IsOver, IsLeast, Earlier}
 use Rattle.ooo_time.specs.declared.stamp.Stamp.{Stamp}
 use Rattle.ooo_time.specs.Stamps.{IsBefore}
 use Rattle.ooo_schedules.specs.Design.{Wait, model, times}
@@ -12,13 +12,15 @@ use Rattle.ooo_value.specs.declared.bound.BoundEvent.TheVariants as event
 use Rattle.ooo_meaning.specs.World.{zero_stamp}
 use Rattle.ooo_schedules.specs.Program.{Program, wait_by, design, Sound}
 use Rattle.ooo_schedules.specs.Worlds.{World, Waiting, after_turn, fire_at, at_stamp, Fits, same_wait, Quiet, is_at}
-use Rattle.ooo_schedules.specs.Updates.{noted_by, note, Asks, nobody}
+use Rattle.ooo_schedules.specs.Updates.{noted_by, note, nobody}
+use Rattle.ooo_schedules.specs.Going.{Takes, GoesOn}
+use Rattle.ooo_schedules.specs.Going.{Going as GoingOf}
 use Rattle.ooo_schedules.specs.Sequence.{Sched, after_act, slot_updated, update, next_cycle, Evaluates, ends, skips, takes, Breaks, skip_on, take_on, here, NextStamp, AllLate, NoStop, Fires, no_more, unheard, RunsTo, faults, stopped, late, limited, goes, starts_now, begin, Starts}
 use Rattle.ooo_schedules.proofs.Reaches.{irreflexive, transitive, compare, then_not_after}
 use Rattle.ooo_schedules.proofs.Programs.{is_own, design_laws, program_laws}
 use Rattle.ooo_schedules.proofs.Run.{run_of, ahead_next}
 use Rattle.ooo_schedules.proofs.Cycles.{turn_next}
-use Rattle.ooo_schedules.proofs.Worlds.{skip_turn, take_turn, fired_fits, EndsBy, on_time, on_event, ends_by, at_itself, is_at_some, fired_slots}
+use Rattle.ooo_schedules.proofs.Worlds.{skip_turn, sorted, take_turn, fired_fits, EndsBy, on_time, on_event, ends_by, at_itself, is_at_some, fired_slots}
 use Rattle.ooo_schedules.proofs.Fronts.{FrontOf, front_of as front_of_log, front_ends, front_is}
 use Rattle.ooo_schedules.proofs.Sorts.{soonest_is}
 use Rattle.ooo_schedules.proofs.Logs.{same_or_not}
@@ -32,17 +34,8 @@ module _ (p : Program) (h : Sound p) where
   abbrev L : Laws M
   L = program_laws p h
 
-  -- in the evaluation, where the processes below q had their turn
-  pub record Going (s : Sched) (xs : Log M) (q : ℕ) : Type 0 where
-    pub fits : Fits p s.world xs q
-    pub from : FromPlace M s.world.stamp q xs
-    pub asks : (e : ℕ) → p.origin e ≢ event.Own → Asks p s.world.stamp xs e (s.values e) (s.asked e)
-    pub run : Sequential M xs
-    pub kept : Kept M xs
-    pub within : s.world.stamp.time.0 ≤ p.stop.0
-    pub below : s.world.stamp.delta ≡ p.limit → ⊥
-    pub whole : (y : ActOf M) → In y xs → p.breaks y ≡ false
-    pub calm : (y : ActOf M) → In y xs → p.stops y ≡ true → y.stamp ≡ s.world.stamp
+  abbrev pub Going : Sched → Log M → ℕ → Type 0
+  Going s xs q = GoingOf p s xs q
 
   skip_going : (s : Sched) (xs : Log M) (q : ℕ) → Going s xs q → s.world.runnable q ≡ false → Going s xs (suc q)
   skip_going s xs q g e =
@@ -283,3 +276,31 @@ module _ (p : Program) (h : Sound p) where
     -- the sequential run: all its activations are those of the fronts of least place, below the cut, and after it the board is over
     pub sequential_run : (zs : Log M) → RunsTo p (begin p) [] zs → Ran zs
     sequential_run zs r = ran (begin p) [] zs r begins
+
+    -- how it goes on, for a scheduler that makes the same steps
+    pub goes_on : GoesOn p
+    goes_on = record {
+      begins = begins;
+      skips = skip_going;
+      takes = taken;
+      idle = λ s xs g. no_runner s xs g;
+      moves = λ s xs w u g n f x within below.
+          let v = fires_on (update p s) w xs (between s xs g) f in going_on w xs v.0 u x s g v.1 within below n;
+    }
+      where
+        taken : (s : Sched) (xs : Log M) (q : ℕ) → Going s xs q → s.world.runnable q ≡ true → Takes p s xs q
+        taken s xs q g on =
+            let r = g.fits.runs q on in
+            let f = r.1 in
+            let o = front_of_log (design p) (design_laws p h) xs q f r.2 in
+            record {
+              front = f;
+              is = r.2;
+              stamp = r.3;
+              wait = o.wait;
+              waits = o.waits;
+              segment = o.segment;
+              ahead = λ y i. (run_of M L xs g.run).ahead q f r.2 y i;
+              sorted = sorted p h s.world xs q g.fits (run_of M L xs g.run) f r.2 r.3;
+              goes = λ whole. take_going s xs q g f on r.2 whole;
+            }

@@ -9,4 +9,5 @@ pub mod Worlds
 pub mod Updates
 pub mod Sequence
 pub mod Endings
+pub mod Going
 pub mod Example

@@ -1,6 +1,7 @@
 //! The laws: functions that do nothing, whose clauses are the laws.
 
 ghost use Rattle.ooo_schedules.specs.Example.{ExampleMet};
+ghost use Rattle.ooo_schedules.specs.Going.{EveryStep};
 ghost use Rattle.ooo_schedules.specs.Tables.{EverySchedule};
 
 /// Of a program whose access and edges are sound, each lawful schedule makes the activations of the sequential run alike
@@ -8,6 +9,12 @@ ghost use Rattle.ooo_schedules.specs.Tables.{EverySchedule};
 /// dispatched out of order doesn't conflict; and what is allowed stays so until it is dispatched, with the same job.
 pub fn every_schedule<R>()
     ensures { EverySchedule R }
+{}
+
+/// How the sequential run of such a program begins and goes on, turn by turn and cycle by cycle: for a scheduler of which it
+/// is to be said that it makes the same steps.
+pub fn every_step<R>()
+    ensures { EveryStep R }
 {}
 
 /// There is a program of which the law speaks.
