@@ -24,9 +24,9 @@ mod readings;
 mod refusals;
 mod single;
 mod source;
-mod symbols;
+mod symbol_list;
 mod words;
 
 pub use parsing::{expression, sum};
 pub use source::parse;
-pub use symbols::symbols;
+pub use symbol_list::symbols;

@@ -8,7 +8,7 @@ ghost use Rattle.ooo_parser.specs.Refusals.{IsRefused, IsTreeOf};
 ghost use Rattle.ooo_parser.specs.Sources.{symbols_in};
 
 use crate::parsing::parse_symbols;
-use crate::symbols::symbols;
+use crate::symbol_list::symbols;
 use ooo_lexer::{MOST_BYTES, Token, position_of_end};
 use ooo_syntax::{ParseError, Unit};
 use std::alloc::Global;

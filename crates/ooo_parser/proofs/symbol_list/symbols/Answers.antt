@@ -2,7 +2,7 @@ use Rattle.std.proofs.Common.{length, map, arith, ap}
 use Rattle.std.proofs.lemmas.List.{length-map}
 use Rattle.ooo_parser.specs.Symbols.{single}
 use Rattle.ooo_parser.proofs.Lengths.{joined_few, few_tokens}
-use Rattle.ooo_parser.proofs.symbols.symbols.Goals as goal
+use Rattle.ooo_parser.proofs.symbol_list.symbols.Goals as goal
 
 pub number-requires : goal.number-requires
 number-requires c =
