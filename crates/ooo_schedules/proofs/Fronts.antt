@@ -133,7 +133,7 @@ module _ (d : Design) (l : DesignLaws d) where
   front_is xs q w t a b = ap (front_when d (sort d xs)) a ∙ ap (front_by w.segment) b
 
   -- a wait that may end at a time has a front that isn't after it
-  front_by_end : (xs : Log M) (q : ℕ) (w : Wait d.Stamp) (t : d.Stamp) → d.wait q (last q xs) ≡ Some w → Ends w xs t → (g : Front d.Stamp) × (M.front xs q ≡ Some g) × (g.segment ≡ w.segment) × NotAfter M g.stamp t
+  pub front_by_end : (xs : Log M) (q : ℕ) (w : Wait d.Stamp) (t : d.Stamp) → d.wait q (last q xs) ≡ Some w → Ends w xs t → (g : Front d.Stamp) × (M.front xs q ≡ Some g) × (g.segment ≡ w.segment) × NotAfter M g.stamp t
   front_by_end xs q w t a h =
       let r = soonest_some d l (times d w (sort d xs)) t (of_ends w xs t h) in
       (record { segment = w.segment; stamp = r.0 }, front_is xs q w r.0 a r.1, refl, r.2)

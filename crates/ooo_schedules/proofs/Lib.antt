@@ -16,3 +16,4 @@ pub mod Worlds
 pub mod Updates
 pub mod Sequence
 pub mod Endings
+pub mod Finals

@@ -120,10 +120,10 @@ module _ (p : Program) (h : Sound p) where
   not_own (event.Taken c) old new n = refl
 
   -- between cycles: nobody is runnable, and each slot is as the log says
-  record Between (w : World) (ys : Log M) : Type 0 where
-    fits : Fits p w ys 0
-    none : (q : ℕ) → w.runnable q ≡ false
-    slots : (e : ℕ) → w.slots e ≡ (at_stamp p w.stamp e ys).pending
+  pub record Between (w : World) (ys : Log M) : Type 0 where
+    pub fits : Fits p w ys 0
+    pub none : (q : ℕ) → w.runnable q ≡ false
+    pub slots : (e : ℕ) → w.slots e ≡ (at_stamp p w.stamp e ys).pending
 
   module _ (t : Sched) (ys : Log M) (g : Going t ys p.processes) where
     numbered : (a : ℕ) (c : Front Stamp) → M.front ys a ≡ Some c → a < p.processes
@@ -145,14 +145,14 @@ module _ (p : Program) (h : Sound p) where
         (λ n. not_own (p.origin e) (t.world.slots e) (note (noted_by (p.origin e) (t.values e) (t.asked e)) t.world.stamp) n ∙ sym (updated p h t.world.stamp ys e (t.values e) (t.asked e) (g.asks e n)))
         (is_own (p.origin e))
 
-    between : Between (update p t) ys
+    pub between : Between (update p t) ys
     between = record {
       fits = record { own = λ e o. updated_all e; past = g.fits.past; runs = λ q e. let c : true ≡ false = sym e ∙ no_runner q in absurd cc; waits = g.fits.waits; quiet = g.fits.quiet };
       none = no_runner;
       slots = updated_all;
     }
 
-  fires_on : (w v : World) (ys : Log M) → Between w ys → Fires w v → Between v ys × (IsBefore w.stamp v.stamp ⊎ (w.stamp ≡ v.stamp))
+  pub fires_on : (w v : World) (ys : Log M) → Between w ys → Fires w v → Between v ys × (IsBefore w.stamp v.stamp ⊎ (w.stamp ≡ v.stamp))
   fires_on w _ ys b no_more = (b, inr refl)
   fires_on w v ys b (unheard u next none f) =
       let fired = fired_fits p h w ys 0 b.fits b.none b.slots u next.later next.slots next.times in
@@ -178,7 +178,7 @@ module _ (p : Program) (h : Sound p) where
         at (on_event d i k) = l.events a x d c.stamp (waiting_is a f.wait f.waits) i (b.slots d ∙ k) o
 
     module _ (u : Stamp) (next : NextStamp w u) where
-      fired : Fits p (fire_at w u) ys 0 × FromPlace M u 0 ys
+      pub fired : Fits p (fire_at w u) ys 0 × FromPlace M u 0 ys
       fired = fired_fits p h w ys 0 b.fits b.none b.slots u next.later next.slots next.times
 
       -- where a process is runnable at the limit, the front of least place is at the limit

@@ -134,7 +134,7 @@ module _ (p : Program) (h : Sound p) where
   end_later s xs x quiet u (on_event e i k) = later_pending s (event_of p e xs) u k
 
   -- what is pending is the event's first
-  pending_first : (s : Stamp) (xs : Log M) (x : Wait Stamp) → Quiet p s xs x → (e : ℕ) → In e x.events → (u : Stamp) → (at_stamp p s e xs).pending ≡ Some u → first_of Stamp is_before (event_of p e xs) x.since ≡ Some u
+  pub pending_first : (s : Stamp) (xs : Log M) (x : Wait Stamp) → Quiet p s xs x → (e : ℕ) → In e x.events → (u : Stamp) → (at_stamp p s e xs).pending ≡ Some u → first_of Stamp is_before (event_of p e xs) x.since ≡ Some u
   pending_first s xs x quiet e i u k =
       least_is Stamp IsBefore is_before irreflexive transitive is_yes is_no x.since (with_pending Stamp is_before (event_of p e xs).fired (event_of p e xs).pending) u
       (subst (In u) (settle_same Stamp IsBefore is_before irreflexive transitive is_yes is_no s (event_of p e xs).fired (event_of p e xs).pending) (pending_in Stamp IsBefore is_before irreflexive transitive is_yes is_no (at_stamp p s e xs).fired (at_stamp p s e xs).pending u k))

@@ -1,7 +1,7 @@
 //! The laws: functions that do nothing, whose clauses are the laws.
 
 ghost use Rattle.ooo_schedules.specs.Example.{ExampleMet};
-ghost use Rattle.ooo_schedules.specs.Going.{EveryStep};
+ghost use Rattle.ooo_schedules.specs.Going.{EveryEnding, EveryStep};
 ghost use Rattle.ooo_schedules.specs.Tables.{EverySchedule};
 
 /// Of a program whose access and edges are sound, each lawful schedule makes the activations of the sequential run alike
@@ -15,6 +15,12 @@ pub fn every_schedule<R>()
 /// is to be said that it makes the same steps.
 pub fn every_step<R>()
     ensures { EveryStep R }
+{}
+
+/// How it ends where no activation broke or stopped: idle where nothing is due, late where all that is due is after the stop
+/// time, and at the limit of deltas where a process is to run there.
+pub fn every_ending<R>()
+    ensures { EveryEnding R }
 {}
 
 /// There is a program of which the law speaks.

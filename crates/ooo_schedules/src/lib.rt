@@ -7,9 +7,9 @@
 //! each of its steps is (`Lawful`). `specs/Program` has what access and edges must say of the activations (`Sound`),
 //! `specs/Sequence` the sequential scheduler (`RunsTo`), `specs/Tables` the theorem in nine parts.
 //!
-//! Proved, in module [`law`]: the theorem ([`law::every_schedule`]), how the sequential run goes on from turn to turn, for
-//! schedulers that make the same steps ([`law::every_step`], `specs/Going`), and that the theorem speaks of something
-//! ([`law::example_is_sound`]).
+//! Proved, in module [`law`]: the theorem ([`law::every_schedule`]), how the sequential run goes on from turn to turn and
+//! ends, for schedulers that make the same steps ([`law::every_step`], [`law::every_ending`], `specs/Going`), and that the
+//! theorem speaks of something ([`law::example_is_sound`]).
 #![tactic(auto)]
 
 pub mod law;
