@@ -32,7 +32,7 @@ pub fn read_event<'a>(alloc: Global, tokens: &'a [Symbol<'a>], limits: Limits) -
     if !starts(rest, Terminal::Dot) {
         return Ok((Event { name, call: None }, rest));
     }
-    let (member, rest) = read_event_call(alloc, rest, limits)?;
+    let (member, rest) = keeping!(name; read_event_call(alloc, rest, limits));
     Ok((
         Event {
             name,
@@ -52,8 +52,8 @@ fn read_next_event<'a>(
 ) -> Read<'a, Items<Event>>
     ensures { Gives (next_item limits Terminal.Or event list tokens.now) result }
 {
-    let (_, rest) = one(tokens, Terminal::Or, limits)?;
-    let (more, rest) = read_event(alloc, rest, limits)?;
+    let (_, rest) = keeping!(list; one(tokens, Terminal::Or, limits));
+    let (more, rest) = keeping!(list; read_event(alloc, rest, limits));
     list.push(more)?;
     Ok((list, rest))
 }

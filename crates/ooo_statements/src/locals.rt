@@ -23,8 +23,8 @@ fn read_declarator<'a>(
     if !starts(rest, Terminal::Assign) {
         return Ok((Declarator { name, value: None }, rest));
     }
-    let (_, rest) = one(rest, Terminal::Assign, limits)?;
-    let (value, rest) = read_value(alloc, rest, limits)?;
+    let (_, rest) = keeping!(name; one(rest, Terminal::Assign, limits));
+    let (value, rest) = keeping!(name; read_value(alloc, rest, limits));
     Ok((
         Declarator {
             name,
@@ -44,8 +44,8 @@ fn read_next_declarator<'a>(
 ) -> Read<'a, Items<Declarator>>
     ensures { Gives (next_item limits Terminal.Comma declarator list tokens.now) result }
 {
-    let (_, rest) = one(tokens, Terminal::Comma, limits)?;
-    let (more, rest) = read_declarator(alloc, rest, limits)?;
+    let (_, rest) = keeping!(list; one(tokens, Terminal::Comma, limits));
+    let (more, rest) = keeping!(list; read_declarator(alloc, rest, limits));
     list.push(more)?;
     Ok((list, rest))
 }

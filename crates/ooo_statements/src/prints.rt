@@ -52,8 +52,8 @@ fn read_next_item<'a>(
 ) -> Read<'a, Items<PrintItem>>
     ensures { Gives (next_item limits Terminal.ShiftLeft item list tokens.now) result }
 {
-    let (_, rest) = one(tokens, Terminal::ShiftLeft, limits)?;
-    let (more, rest) = read_print_item(alloc, rest, limits)?;
+    let (_, rest) = keeping!(list; one(tokens, Terminal::ShiftLeft, limits));
+    let (more, rest) = keeping!(list; read_print_item(alloc, rest, limits));
     list.push(more)?;
     Ok((list, rest))
 }

@@ -103,8 +103,8 @@ fn read_notify<'a>(
 ) -> Read<'a, Simple>
     ensures { Gives (reads_at limits (notify_call name) tokens.now) result }
 {
-    let (head, rest) = one(tokens, Terminal::Notify, limits)?;
-    let (time, rest) = read_time_in_parens(alloc, rest, limits)?;
+    let (head, rest) = keeping!(name; one(tokens, Terminal::Notify, limits));
+    let (time, rest) = keeping!(name; read_time_in_parens(alloc, rest, limits));
     Ok((Simple::Notify(name, head.position, time), rest))
 }
 
@@ -133,8 +133,8 @@ fn read_member_call<'a>(
 ) -> Read<'a, Simple>
     ensures { Gives (reads_at limits (member_call name) tokens.now) result }
 {
-    let (member, rest) = read_member_word(alloc, tokens, limits)?;
-    let (value, rest) = read_option_in_parens(alloc, rest, limits)?;
+    let (member, rest) = keeping!(name; read_member_word(alloc, tokens, limits));
+    let (value, rest) = keeping!(name, member; read_option_in_parens(alloc, rest, limits));
     Ok((Simple::Member(name, member, value), rest))
 }
 
@@ -167,8 +167,8 @@ fn read_next_argument<'a>(
 ) -> Read<'a, Items<Expr>>
     ensures { Gives (next_inside limits Terminal.Comma inner_value list tokens.now) result }
 {
-    let (_, rest) = one_inside(tokens, Terminal::Comma, limits)?;
-    let (more, rest) = read_inner_value(alloc, rest, limits)?;
+    let (_, rest) = keeping!(list; one_inside(tokens, Terminal::Comma, limits));
+    let (more, rest) = keeping!(list; read_inner_value(alloc, rest, limits));
     list.push(more)?;
     Ok((list, rest))
 }
@@ -235,16 +235,16 @@ fn read_after_first_word<'a>(
     ensures { Gives (reads_at limits (after_first_word name) tokens.now) result }
 {
     if starts(tokens, Terminal::OpenBracket) {
-        let (at, rest) = read_index(alloc, tokens, limits)?;
+        let (at, rest) = keeping!(name; read_index(alloc, tokens, limits));
         let index = Some(at);
         return read_after_target(alloc, Target { name, index }, rest, limits);
     }
     if starts(tokens, Terminal::Open) {
-        let (list, rest) = read_arguments(alloc, tokens, limits)?;
+        let (list, rest) = keeping!(name; read_arguments(alloc, tokens, limits));
         return Ok((Simple::Call(name, list), rest));
     }
     if starts(tokens, Terminal::Dot) {
-        let (_, rest) = one(tokens, Terminal::Dot, limits)?;
+        let (_, rest) = keeping!(name; one(tokens, Terminal::Dot, limits));
         return read_after_dot(alloc, name, rest, limits);
     }
     read_after_target(alloc, Target { name, index: None }, tokens, limits)
@@ -259,7 +259,7 @@ fn read_target<'a>(alloc: Global, tokens: &'a [Symbol<'a>], limits: Limits) -> R
     if !starts(rest, Terminal::OpenBracket) {
         return Ok((Target { name, index: None }, rest));
     }
-    let (at, rest) = read_index(alloc, rest, limits)?;
+    let (at, rest) = keeping!(name; read_index(alloc, rest, limits));
     let index = Some(at);
     Ok((Target { name, index }, rest))
 }

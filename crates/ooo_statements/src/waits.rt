@@ -60,7 +60,7 @@ fn read_after_events<'a>(
 {
     if starts(tokens, Terminal::Close) {
         discard(first);
-        let (_, rest) = one(tokens, Terminal::Close, limits)?;
+        let (_, rest) = keeping!(list; one(tokens, Terminal::Close, limits));
         return Ok((Awaited::Events(list), rest));
     }
     discard(list);
