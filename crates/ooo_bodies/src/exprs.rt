@@ -7,6 +7,7 @@ ghost use Rattle.ooo_bodies.specs.Noting.{noted};
 
 use crate::copies::{copy_word, kind_written, resolve};
 use crate::kinds::{binary_kind, choice_kind, prefix_kind};
+use crate::names::MemberCall;
 use crate::notes::Notes;
 use ooo_checked::{CallPlace, CheckedExpr, Method};
 use ooo_scopes::Scopes;
@@ -41,7 +42,9 @@ pub fn expr(
         Expr::Index(word, index) => indexed(alloc, word, index.get(), scopes, notes),
         Expr::Call(word, args) => call(alloc, CallPlace::Inside, word, args, scopes, notes),
         Expr::Member(word, after, arg) => {
-            member(alloc, CallPlace::Inside, word, after, arg, scopes, notes)
+            let place = CallPlace::Inside;
+            let call = MemberCall { place, word, after };
+            member(alloc, call, arg, scopes, notes)
         }
         Expr::Prefix(at, op, operand) => {
             let tree = boxed(alloc, operand.get(), scopes, notes)?;
@@ -153,25 +156,25 @@ fn call(
 #[tactic(auto, unfolding(ooo_checked::specs::Exprs::expr_of), using(crate::specs::Noting::noted_append))]
 fn member(
     alloc: Global,
-    place: CallPlace,
-    word: &Word,
-    after: &Word,
+    call: MemberCall<'_>,
     arg: &Option<Boxed<Expr>>,
     scopes: &Scopes,
     notes: &mut Notes,
 ) -> Result<CheckedExpr, AllocError>
     ensures tree { IfOk result (λ tree. tree
-        ≡ (member_of place word.now after.now (option_of arg.now scopes.now) scopes.now).tree) }
+        ≡ (member_of call.entry.place call.entry.word.now call.entry.after.now
+        (option_of arg.now scopes.now) scopes.now).tree) }
     ensures notes { OnOk result (notes.new ≡ noted notes.old
-        (member_of place word.now after.now (option_of arg.now scopes.now) scopes.now).notes) }
+        (member_of call.entry.place call.entry.word.now call.entry.after.now
+        (option_of arg.now scopes.now) scopes.now).notes) }
 {
-    let thing = scopes.denotes(word.name.as_bytes()).thing;
-    let method = thing.method(after.name.as_bytes());
+    let thing = scopes.denotes(call.word.name.as_bytes()).thing;
+    let method = thing.method(call.after.name.as_bytes());
     let count = argument_count(arg);
-    notes.member(place, thing, method, count, word.position, after.position)?;
+    notes.member(call, thing, method, count)?;
     let tree = argument(alloc, method, arg, scopes, notes)?;
-    let after = copy_word(alloc, after)?;
-    let name = resolve(alloc, scopes, word)?;
+    let after = copy_word(alloc, call.after)?;
+    let name = resolve(alloc, scopes, call.word)?;
     Ok(CheckedExpr::Member(method.kind(thing), name, after, method, tree))
 }
 
@@ -252,7 +255,9 @@ pub fn right_side(
     match e {
         Expr::Call(word, args) => call(alloc, CallPlace::Whole, word, args, scopes, notes),
         Expr::Member(word, after, arg) => {
-            member(alloc, CallPlace::Whole, word, after, arg, scopes, notes)
+            let place = CallPlace::Whole;
+            let call = MemberCall { place, word, after };
+            member(alloc, call, arg, scopes, notes)
         }
         _ => expr(alloc, e, scopes, notes),
     }

@@ -6,7 +6,16 @@ ghost use Rattle.ooo_bodies.specs.Noting.{noted};
 use crate::notes::Notes;
 use ooo_checked::{CallPlace, CheckedExpr, Denotation, Method, Thing, TypeBreach};
 use ooo_lexer::Position;
+use ooo_syntax::Word;
 use std::alloc::AllocError;
+
+/// A call of a channel or a port: where it stands, the word of what is called, and that behind the dot.
+#[derive(Clone, Copy)]
+pub(crate) struct MemberCall<'a> {
+    pub place: CallPlace,
+    pub word: &'a Word,
+    pub after: &'a Word,
+}
 
 impl Notes {
     /// Notes the name of a thing that stands where a thing that passes a test may stand.
@@ -59,25 +68,24 @@ impl Notes {
         Ok(())
     }
 
-    /// Notes a call of a channel or a port by a name and a word after a dot, with this many arguments.
+    /// Notes a call of a method of a thing, with this many arguments.
     #[tactic(auto, using(crate::specs::Noting::noted_append))]
-    pub fn member(
+    pub(crate) fn member(
         &mut self,
-        place: CallPlace,
+        call: MemberCall<'_>,
         thing: Thing,
         method: Method,
         args: usize,
-        at: Position,
-        dot: Position,
     ) -> Result<(), AllocError>
-        ensures { OnOk result (self.new
-            ≡ noted self.old (member_notes place thing method args at dot)) }
+        ensures { OnOk result (self.new ≡ noted self.old
+            (member_notes call.entry.place thing method args
+            call.entry.word.now.position call.entry.after.now.position)) }
     {
         if !thing.is_known() {
-            self.breaks(TypeBreach::UnknownName, at);
+            self.breaks(TypeBreach::UnknownName, call.word.position);
             return Ok(());
         }
-        self.method(place, thing, method, args, dot)
+        self.method(call.place, thing, method, args, call.after.position)
     }
 
     // Notes a call of a channel or a port, at the word after the dot.

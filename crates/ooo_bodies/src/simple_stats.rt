@@ -1,7 +1,6 @@
 ghost use Rattle.std.specs.Prelude.{◌≡◌, ◌++◌, IfOk, OnOk};
 ghost use Rattle.ooo_checked.specs.Exprs.{argument_notes, count_of, member_notes, option_of, tree_of};
 ghost use Rattle.ooo_checked.specs.Things.{method_of};
-ghost use Rattle.ooo_checked.specs.declared.place.CallPlace.TheVariants.{Statement};
 ghost use Rattle.ooo_checked.specs.Notes.{all_notes, trees};
 ghost use Rattle.ooo_checked.specs.Stats.{is_compound, is_own_event, item_of, items_of, notify_notes, option_notes};
 ghost use Rattle.ooo_checked.specs.Stats.{assign_of, call_stat_of, member_stat_of, notify_of};
@@ -11,6 +10,7 @@ ghost use Rattle.ooo_bodies.specs.Noting.{noted};
 use crate::copies::{copy_text, copy_word, discard, resolve};
 use crate::events::{awaited, time};
 use crate::exprs::{boxed, expr, exprs, right_side};
+use crate::names::MemberCall;
 use crate::notes::Notes;
 use ooo_checked::{
     CallPlace, CheckedExpr, CheckedItem, CheckedSimple, CheckedTarget, Method, Thing, TypeBreach,
@@ -250,27 +250,26 @@ fn argument(
     }
 }
 
-// Notes a call of a channel or a port as a statement, and gives its argument, if it has one.
+// Notes a call of a channel or a port that is this thing, and gives its argument, if it has one.
 #[tactic(auto, using(crate::specs::Noting::noted_append))]
 fn noted_argument(
     alloc: Global,
+    call: MemberCall<'_>,
     thing: Thing,
-    word: &Word,
-    after: &Word,
     arg: &Option<Expr>,
     scopes: &Scopes,
     notes: &mut Notes,
 ) -> Result<Option<CheckedExpr>, AllocError>
     ensures tree { IfOk result (λ tree. tree ≡ tree_of (option_of arg.now scopes.now)) }
     ensures notes { OnOk result (notes.new ≡ noted notes.old
-        (member_notes Statement thing (method_of thing after.now.name) (count_of arg.now)
-        word.now.position after.now.position
-        ++ argument_notes (method_of thing after.now.name) (option_of arg.now scopes.now))) }
+        (member_notes call.entry.place thing (method_of thing call.entry.after.now.name)
+        (count_of arg.now) call.entry.word.now.position call.entry.after.now.position
+        ++ argument_notes (method_of thing call.entry.after.now.name)
+        (option_of arg.now scopes.now))) }
 {
-    let method = thing.method(after.name.as_bytes());
+    let method = thing.method(call.after.name.as_bytes());
     let count = argument_count(arg);
-    let place = CallPlace::Statement;
-    notes.member(place, thing, method, count, word.position, after.position)?;
+    notes.member(call, thing, method, count)?;
     argument(alloc, method, arg, scopes, notes)
 }
 
@@ -292,7 +291,9 @@ fn member(
     let dot = keeping!(name; copy_word(alloc, after));
     let thing = name.denotes.thing;
     let method = thing.method(after.name.as_bytes());
-    let tree = keeping!(name, dot; noted_argument(alloc, thing, word, after, arg, scopes, notes));
+    let place = CallPlace::Statement;
+    let call = MemberCall { place, word, after };
+    let tree = keeping!(name, dot; noted_argument(alloc, call, thing, arg, scopes, notes));
     Ok(CheckedSimple::Member(name, dot, method, tree))
 }
 

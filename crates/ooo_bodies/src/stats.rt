@@ -3,8 +3,8 @@ ghost use Rattle.ooo_checked.specs.Exprs.{option_of, tree_of};
 ghost use Rattle.ooo_checked.specs.Scopes.{entered, left};
 ghost use Rattle.ooo_checked.specs.Stats.{declarator_of, declarators_of, do_of, else_of, for_of, head_notes};
 ghost use Rattle.ooo_checked.specs.Stats.{initial_of, inner, local_denotation, local_of, loop_notes, looped};
-ghost use Rattle.ooo_checked.specs.Stats.{option_notes, option_reading, option_start_of, return_notes, start_of};
-ghost use Rattle.ooo_checked.specs.Stats.{stat_of, stats_of, step_of, while_of};
+ghost use Rattle.ooo_checked.specs.Stats.{option_notes, option_reading, option_start_of, return_notes, return_of, start_of};
+ghost use Rattle.ooo_checked.specs.Stats.{simple_of, stat_of, stats_of, step_of, while_of};
 ghost use Rattle.ooo_bodies.specs.Noting.{noted};
 
 use crate::copies::{copy_word, discard, kind_written};
@@ -133,22 +133,39 @@ fn local(
     })
 }
 
-// A declaration of locals, on the heap.
-fn boxed_local(
+// A declaration of locals as a statement.
+fn local_stat(
     alloc: Global,
     context: Context,
     names: &Local,
     scopes: &mut Scopes,
     notes: &mut Notes,
-) -> Result<Boxed<CheckedLocal>, AllocError>
-    ensures tree { IfOk result (λ tree. tree ≡ (local_of context names.now scopes.old).tree) }
+) -> Result<CheckedStat, AllocError>
+    ensures tree { IfOk result (λ tree.
+        tree ≡ CheckedStat.Local (local_of context names.now scopes.old).tree) }
     ensures scope { OnOk result (scopes.new ≡ (local_of context names.now scopes.old).scope) }
     ensures notes { OnOk result (notes.new
         ≡ noted notes.old (local_of context names.now scopes.old).notes) }
     ensures outer { OnOk result (left scopes.new ≡ left scopes.old) }
 {
     let tree = local(alloc, context, names, scopes, notes)?;
-    Boxed::new(alloc, tree)
+    Ok(CheckedStat::Local(Boxed::new(alloc, tree)?))
+}
+
+// A simple statement as a statement.
+fn plain_stat(
+    alloc: Global,
+    statement: &Simple,
+    scopes: &Scopes,
+    notes: &mut Notes,
+) -> Result<CheckedStat, AllocError>
+    ensures tree { IfOk result (λ tree.
+        tree ≡ CheckedStat.Simple (simple_of statement.now scopes.now).tree) }
+    ensures notes { OnOk result (notes.new
+        ≡ noted notes.old (simple_of statement.now scopes.now).notes) }
+{
+    let tree = boxed_simple(alloc, statement, scopes, notes)?;
+    Ok(CheckedStat::Simple(tree))
 }
 
 // How a `for` begins.
@@ -259,6 +276,26 @@ impl Notes {
     }
 }
 
+// `return`
+#[tactic(auto, using(crate::specs::Noting::noted_append))]
+fn return_stat(
+    alloc: Global,
+    context: Context,
+    at: Position,
+    value: &Option<Boxed<Expr>>,
+    scopes: &Scopes,
+    notes: &mut Notes,
+) -> Result<CheckedStat, AllocError>
+    ensures tree { IfOk result (λ tree.
+        tree ≡ (return_of at value.now context scopes.now).tree) }
+    ensures notes { OnOk result (notes.new
+        ≡ noted notes.old (return_of at value.now context scopes.now).notes) }
+{
+    notes.returns(context.result, value, at);
+    let value = boxed_option(alloc, value, scopes, notes)?;
+    Ok(CheckedStat::Return(at, value))
+}
+
 // Where the body of a loop stands.
 fn looped(context: Context) -> Context
     ensures { result ≡ looped context }
@@ -297,14 +334,8 @@ pub fn stat(
             Ok(CheckedStat::Block(*at, body))
         }
         Stat::Empty(at) => Ok(CheckedStat::Empty(*at)),
-        Stat::Local(names) => {
-            let names = boxed_local(alloc, context, names.get(), scopes, notes)?;
-            Ok(CheckedStat::Local(names))
-        }
-        Stat::Simple(statement) => {
-            let statement = boxed_simple(alloc, statement.get(), scopes, notes)?;
-            Ok(CheckedStat::Simple(statement))
-        }
+        Stat::Local(names) => local_stat(alloc, context, names.get(), scopes, notes),
+        Stat::Simple(statement) => plain_stat(alloc, statement.get(), scopes, notes),
         Stat::If(at, test, yes, no) => {
             let condition = test.get();
             let first = yes.get();
@@ -314,23 +345,21 @@ pub fn stat(
             Ok(CheckedStat::If(*at, test, yes, no))
         }
         Stat::While(at, test, body) => {
-            while_stat(alloc, context, *at, body.get(), test.get(), scopes, notes)
+            let head = LoopHead { at, test };
+            while_stat(alloc, context, head, body.get(), scopes, notes)
         }
         Stat::Do(at, body, test) => {
-            do_stat(alloc, context, *at, body.get(), test.get(), scopes, notes)
+            let head = LoopHead { at, test };
+            do_stat(alloc, context, head, body.get(), scopes, notes)
         }
         Stat::For(at, begins, test, after, body) => {
-            for_stat(
-                alloc,
-                context,
-                *at,
-                body.get(),
+            let head = ForHead {
+                at,
                 begins,
                 test,
                 after,
-                scopes,
-                notes,
-            )
+            };
+            for_stat(alloc, context, head, body.get(), scopes, notes)
         }
         Stat::Break(at) => {
             notes.leaves_loop(context, *at);
@@ -340,11 +369,7 @@ pub fn stat(
             notes.leaves_loop(context, *at);
             Ok(CheckedStat::Continue(*at))
         }
-        Stat::Return(at, value) => {
-            notes.returns(context.result, value, *at);
-            let value = boxed_option(alloc, value, scopes, notes)?;
-            Ok(CheckedStat::Return(*at, value))
-        }
+        Stat::Return(at, value) => return_stat(alloc, context, *at, value, scopes, notes),
     }
 }
 
@@ -465,29 +490,35 @@ fn otherwise(
     }
 }
 
+// Where a `while` or a `do` begins, and its test.
+#[derive(Clone, Copy)]
+struct LoopHead<'a> {
+    at: &'a Position,
+    test: &'a Boxed<Expr>,
+}
+
 // `while`
 #[cycle(stat)]
 #[tactic(auto, unfolding(ooo_checked::specs::Stats::stat_of), using(crate::specs::Noting::noted_append))]
 fn while_stat(
     alloc: Global,
     context: Context,
-    at: Position,
+    head: LoopHead<'_>,
     body: &Stat,
-    test: &Expr,
     scopes: &mut Scopes,
     notes: &mut Notes,
 ) -> Result<CheckedStat, AllocError>
-    ensures tree { IfOk result (λ tree.
-        tree ≡ (while_of at test.now (stat_of body.now) context scopes.old).tree) }
-    ensures scope { OnOk result (scopes.new
-        ≡ (while_of at test.now (stat_of body.now) context scopes.old).scope) }
-    ensures notes { OnOk result (notes.new
-        ≡ noted notes.old (while_of at test.now (stat_of body.now) context scopes.old).notes) }
+    ensures tree { IfOk result (λ tree. tree ≡ (while_of head.entry.at.now
+        head.entry.test.now (stat_of body.now) context scopes.old).tree) }
+    ensures scope { OnOk result (scopes.new ≡ (while_of head.entry.at.now
+        head.entry.test.now (stat_of body.now) context scopes.old).scope) }
+    ensures notes { OnOk result (notes.new ≡ noted notes.old (while_of head.entry.at.now
+        head.entry.test.now (stat_of body.now) context scopes.old).notes) }
     ensures outer { OnOk result (left scopes.new ≡ left scopes.old) }
 {
-    let test = boxed(alloc, test, scopes, notes)?;
+    let test = boxed(alloc, head.test.get(), scopes, notes)?;
     let body = keeping!(test; inner(alloc, looped(context), body, scopes, notes));
-    Ok(CheckedStat::While(at, test, body))
+    Ok(CheckedStat::While(*head.at, test, body))
 }
 
 // `do`
@@ -496,28 +527,36 @@ fn while_stat(
 fn do_stat(
     alloc: Global,
     context: Context,
-    at: Position,
+    head: LoopHead<'_>,
     body: &Stat,
-    test: &Expr,
     scopes: &mut Scopes,
     notes: &mut Notes,
 ) -> Result<CheckedStat, AllocError>
-    ensures tree { IfOk result (λ tree.
-        tree ≡ (do_of at (stat_of body.now) test.now context scopes.old).tree) }
-    ensures scope { OnOk result (scopes.new
-        ≡ (do_of at (stat_of body.now) test.now context scopes.old).scope) }
-    ensures notes { OnOk result (notes.new
-        ≡ noted notes.old (do_of at (stat_of body.now) test.now context scopes.old).notes) }
+    ensures tree { IfOk result (λ tree. tree ≡ (do_of head.entry.at.now
+        (stat_of body.now) head.entry.test.now context scopes.old).tree) }
+    ensures scope { OnOk result (scopes.new ≡ (do_of head.entry.at.now
+        (stat_of body.now) head.entry.test.now context scopes.old).scope) }
+    ensures notes { OnOk result (notes.new ≡ noted notes.old (do_of head.entry.at.now
+        (stat_of body.now) head.entry.test.now context scopes.old).notes) }
     ensures outer { OnOk result (left scopes.new ≡ left scopes.old) }
 {
     let body = inner(alloc, looped(context), body, scopes, notes)?;
-    let test = keeping!(body; boxed(alloc, test, scopes, notes));
-    Ok(CheckedStat::Do(at, body, test))
+    let test = keeping!(body; boxed(alloc, head.test.get(), scopes, notes));
+    Ok(CheckedStat::Do(*head.at, body, test))
 }
 
-// What stands in the parentheses of a `for`.
+// Where a `for` begins, and what stands in its parentheses.
+#[derive(Clone, Copy)]
+struct ForHead<'a> {
+    at: &'a Position,
+    begins: &'a Option<Boxed<ForStart>>,
+    test: &'a Option<Boxed<Expr>>,
+    after: &'a Option<Boxed<Simple>>,
+}
+
+// What stands in the parentheses of a `for`, with what its names denote.
 #[derive(Drop)]
-struct ForHead {
+struct CheckedForHead {
     begins: Option<Boxed<CheckedStart>>,
     test: Option<Boxed<CheckedExpr>>,
     after: Option<Boxed<CheckedSimple>>,
@@ -528,28 +567,26 @@ struct ForHead {
 fn for_head(
     alloc: Global,
     context: Context,
-    begins: &Option<Boxed<ForStart>>,
-    test: &Option<Boxed<Expr>>,
-    after: &Option<Boxed<Simple>>,
+    head: ForHead<'_>,
     scopes: &mut Scopes,
     notes: &mut Notes,
-) -> Result<ForHead, AllocError>
-    ensures begins { IfOk result (λ head.
-        head.begins ≡ (option_start_of context begins.now scopes.old).tree) }
-    ensures test { IfOk result (λ head. head.test ≡ tree_of
-        (option_of test.now (option_start_of context begins.now scopes.old).scope)) }
-    ensures after { IfOk result (λ head. head.after
-        ≡ (step_of after.now (option_start_of context begins.now scopes.old).scope).tree) }
+) -> Result<CheckedForHead, AllocError>
+    ensures begins { IfOk result (λ made. made.begins
+        ≡ (option_start_of context head.entry.begins.now scopes.old).tree) }
+    ensures test { IfOk result (λ made. made.test ≡ tree_of (option_of head.entry.test.now
+        (option_start_of context head.entry.begins.now scopes.old).scope)) }
+    ensures after { IfOk result (λ made. made.after ≡ (step_of head.entry.after.now
+        (option_start_of context head.entry.begins.now scopes.old).scope).tree) }
     ensures scope { OnOk result (scopes.new
-        ≡ (option_start_of context begins.now scopes.old).scope) }
-    ensures notes { OnOk result (notes.new
-        ≡ noted notes.old (head_notes context begins.now test.now after.now scopes.old)) }
+        ≡ (option_start_of context head.entry.begins.now scopes.old).scope) }
+    ensures notes { OnOk result (notes.new ≡ noted notes.old (head_notes context
+        head.entry.begins.now head.entry.test.now head.entry.after.now scopes.old)) }
     ensures outer { OnOk result (left scopes.new ≡ left scopes.old) }
 {
-    let begins = option_start(alloc, context, begins, scopes, notes)?;
-    let test = keeping!(begins; boxed_option(alloc, test, scopes, notes));
-    let after = keeping!(begins, test; step(alloc, after, scopes, notes));
-    Ok(ForHead {
+    let begins = option_start(alloc, context, head.begins, scopes, notes)?;
+    let test = keeping!(begins; boxed_option(alloc, head.test, scopes, notes));
+    let after = keeping!(begins, test; step(alloc, head.after, scopes, notes));
+    Ok(CheckedForHead {
         begins,
         test,
         after,
@@ -562,30 +599,28 @@ fn for_head(
 fn for_stat(
     alloc: Global,
     context: Context,
-    at: Position,
+    head: ForHead<'_>,
     body: &Stat,
-    begins: &Option<Boxed<ForStart>>,
-    test: &Option<Boxed<Expr>>,
-    after: &Option<Boxed<Simple>>,
     scopes: &mut Scopes,
     notes: &mut Notes,
 ) -> Result<CheckedStat, AllocError>
-    ensures tree { IfOk result (λ tree. tree
-        ≡ (for_of at begins.now test.now after.now (stat_of body.now) context scopes.old).tree) }
-    ensures scope { OnOk result (scopes.new
-        ≡ (for_of at begins.now test.now after.now (stat_of body.now) context scopes.old).scope) }
-    ensures notes { OnOk result (notes.new ≡ noted notes.old
-        (for_of at begins.now test.now after.now (stat_of body.now) context scopes.old).notes) }
+    ensures tree { IfOk result (λ tree. tree ≡ (for_of head.entry.at.now head.entry.begins.now
+        head.entry.test.now head.entry.after.now (stat_of body.now) context scopes.old).tree) }
+    ensures scope { OnOk result (scopes.new ≡ (for_of head.entry.at.now head.entry.begins.now
+        head.entry.test.now head.entry.after.now (stat_of body.now) context scopes.old).scope) }
+    ensures notes { OnOk result (notes.new ≡ noted notes.old (for_of head.entry.at.now
+        head.entry.begins.now head.entry.test.now head.entry.after.now (stat_of body.now)
+        context scopes.old).notes) }
     ensures outer { OnOk result (left scopes.new ≡ left scopes.old) }
 {
     scopes.enter()?;
-    let head = for_head(alloc, context, begins, test, after, scopes, notes)?;
-    let body = keeping!(head; inner(alloc, looped(context), body, scopes, notes));
+    let made = for_head(alloc, context, head, scopes, notes)?;
+    let body = keeping!(made; inner(alloc, looped(context), body, scopes, notes));
     scopes.leave();
-    let ForHead {
+    let CheckedForHead {
         begins,
         test,
         after,
-    } = head;
-    Ok(CheckedStat::For(at, begins, test, after, body))
+    } = made;
+    Ok(CheckedStat::For(*head.at, begins, test, after, body))
 }

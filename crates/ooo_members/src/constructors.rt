@@ -13,7 +13,7 @@ ghost use Rattle.ooo_members.specs.Constructors.{name_due_notes, name_step, own_
 
 use crate::args::{args, is_form_of};
 use crate::bodies::{name, params};
-use crate::known::{ModuleFacts, Sofar, UNKNOWN, module_at};
+use crate::known::{ModuleFacts, Sofar, Surroundings, UNKNOWN, module_at};
 use crate::setups::setups;
 use ooo_bodies::copies::copy_word;
 use ooo_bodies::exprs::expr;
@@ -238,40 +238,26 @@ fn inits(
     Ok(all)
 }
 
+// A constructor without its parameters: the word that names it, what it initialises, and what it sets up.
+#[derive(Clone, Copy)]
+struct Text<'a> {
+    word: &'a Word,
+    inits: &'a Items<Init>,
+    statements: &'a Items<Setup>,
+}
+
+// The parameters of a constructor: the name that the module is given, and the others.
+#[derive(Clone, Copy)]
+struct Params<'a> {
+    own_name: &'a Word,
+    others: &'a Items<Param>,
+}
+
 // What a constructor initialises and sets up.
 #[derive(Drop)]
 struct Inside {
     inits: Items<CheckedInit>,
     setups: Items<CheckedSetup>,
-}
-
-// What stands behind the parameters of a constructor.
-#[tactic(auto, using(ooo_bodies::specs::Noting::noted_append))]
-fn read_inside(
-    alloc: Global,
-    modules: &[Option<ModuleFacts>],
-    denotations: &Items<Denotation>,
-    begins: &Items<Init>,
-    statements: &Items<Setup>,
-    scopes: &Scopes,
-    sofar: &mut Sofar,
-    notes: &mut Notes,
-) -> Result<Inside, AllocError>
-    requires { length denotations.now ≡ length begins.now }
-    ensures inits { IfOk result (λ inside. inside.inits
-        ≡ trees (inits_with modules.now denotations.now begins.now scopes.now)) }
-    ensures setups { IfOk result (λ inside. inside.setups
-        ≡ (setups_of modules.now scopes.now statements.now sofar.old).tree) }
-    ensures behind { OnOk result (sofar.new
-        ≡ behind_constructor (setups_of modules.now scopes.now statements.now sofar.old).behind) }
-    ensures notes { OnOk result (notes.new ≡ noted notes.old
-        (all_notes (inits_with modules.now denotations.now begins.now scopes.now)
-        ++ (setups_of modules.now scopes.now statements.now sofar.old).notes)) }
-{
-    let inits = inits(alloc, modules, denotations, begins, scopes, notes)?;
-    let setups = setups(alloc, modules, statements, scopes, sofar, notes)?;
-    sofar.has_constructor = true;
-    Ok(Inside { inits, setups })
 }
 
 // Notes the word that names a constructor.
@@ -295,123 +281,176 @@ struct Head {
 #[tactic(auto, using(ooo_bodies::specs::Noting::noted_append))]
 fn read_head(
     alloc: Global,
-    own_name: &Word,
-    others: &Items<Param>,
+    all: Params<'_>,
     scopes: &mut Scopes,
     notes: &mut Notes,
 ) -> Result<Head, AllocError>
     ensures tree { IfOk result (λ head. (head.own_name, head.params)
-        ≡ (head_of own_name.now others.now scopes.old).tree) }
-    ensures scope { OnOk result (scopes.new ≡ (head_of own_name.now others.now scopes.old).scope) }
-    ensures notes { OnOk result (notes.new
-        ≡ noted notes.old (head_of own_name.now others.now scopes.old).notes) }
+        ≡ (head_of all.entry.own_name.now all.entry.others.now scopes.old).tree) }
+    ensures scope { OnOk result (scopes.new
+        ≡ (head_of all.entry.own_name.now all.entry.others.now scopes.old).scope) }
+    ensures notes { OnOk result (notes.new ≡ noted notes.old
+        (head_of all.entry.own_name.now all.entry.others.now scopes.old).notes) }
     ensures outer { OnOk result (left scopes.new ≡ scopes.old) }
 {
     let outside = scopes.size();
     scopes.enter()?;
-    let own_name = name(alloc, outside, Thing::ModuleName, own_name, scopes, notes)?;
-    let params = params(alloc, outside, others, scopes, notes)?;
+    let own_name = name(
+        alloc,
+        outside,
+        Thing::ModuleName,
+        all.own_name,
+        scopes,
+        notes,
+    )?;
+    let params = params(alloc, outside, all.others, scopes, notes)?;
     Ok(Head { own_name, params })
 }
 
-// `SC_CTOR`
-#[tactic(auto, using(ooo_bodies::specs::Noting::noted_append))]
-fn named(
-    alloc: Global,
-    modules: &[Option<ModuleFacts>],
-    word: &Word,
-    inits: &Items<Init>,
-    statements: &Items<Setup>,
-    scopes: &mut Scopes,
-    sofar: &mut Sofar,
-    notes: &mut Notes,
-) -> Result<CheckedConstructor, AllocError>
-    ensures tree { IfOk result (λ tree. tree ≡ (named_of modules.now
-        word.now inits.now statements.now scopes.old sofar.old).tree) }
-    ensures behind { OnOk result (sofar.new ≡ (named_of modules.now
-        word.now inits.now statements.now scopes.old sofar.old).behind) }
-    ensures notes { OnOk result (notes.new ≡ noted notes.old (named_of modules.now
-        word.now inits.now statements.now scopes.old sofar.old).notes) }
-    ensures scope { OnOk result (scopes.new ≡ scopes.old) }
-{
-    let names = denotations(alloc, inits, scopes)?;
-    let word = copy_word(alloc, word)?;
-    scopes.enter()?;
-    let inside = read_inside(
-        alloc, modules, &names, inits, statements, scopes, sofar, notes,
-    )?;
-    scopes.leave();
-    Ok(CheckedConstructor::Named(word, inside.inits, inside.setups))
-}
+impl Surroundings<'_> {
+    // What stands behind the parameters of a constructor.
+    #[tactic(auto, using(ooo_bodies::specs::Noting::noted_append))]
+    fn inside(
+        self,
+        denotations: &Items<Denotation>,
+        text: Text<'_>,
+        scopes: &Scopes,
+        sofar: &mut Sofar,
+        notes: &mut Notes,
+    ) -> Result<Inside, AllocError>
+        requires { length denotations.now ≡ length text.inits.now }
+        ensures inits { IfOk result (λ inside. inside.inits ≡ trees (inits_with
+            self.entry.modules.now denotations.now text.entry.inits.now scopes.now)) }
+        ensures setups { IfOk result (λ inside. inside.setups ≡ (setups_of
+            self.entry.modules.now scopes.now text.entry.statements.now sofar.old).tree) }
+        ensures behind { OnOk result (sofar.new ≡ behind_constructor (setups_of
+            self.entry.modules.now scopes.now text.entry.statements.now sofar.old).behind) }
+        ensures notes { OnOk result (notes.new ≡ noted notes.old (all_notes (inits_with
+            self.entry.modules.now denotations.now text.entry.inits.now scopes.now)
+            ++ (setups_of self.entry.modules.now scopes.now
+            text.entry.statements.now sofar.old).notes)) }
+    {
+        let inits = inits(
+            self.alloc,
+            self.modules,
+            denotations,
+            text.inits,
+            scopes,
+            notes,
+        )?;
+        let setups = setups(
+            self.alloc,
+            self.modules,
+            text.statements,
+            scopes,
+            sofar,
+            notes,
+        )?;
+        sofar.has_constructor = true;
+        Ok(Inside { inits, setups })
+    }
 
-// A constructor with parameters.
-#[tactic(auto, using(ooo_bodies::specs::Noting::noted_append))]
-fn written(
-    alloc: Global,
-    modules: &[Option<ModuleFacts>],
-    word: &Word,
-    own_name: &Word,
-    others: &Items<Param>,
-    inits: &Items<Init>,
-    statements: &Items<Setup>,
-    scopes: &mut Scopes,
-    sofar: &mut Sofar,
-    notes: &mut Notes,
-) -> Result<CheckedConstructor, AllocError>
-    ensures tree { IfOk result (λ tree. tree ≡ (written_of modules.now
-        word.now own_name.now others.now inits.now statements.now scopes.old sofar.old).tree) }
-    ensures behind { OnOk result (sofar.new ≡ (written_of modules.now
-        word.now own_name.now others.now inits.now statements.now scopes.old sofar.old).behind) }
-    ensures notes { OnOk result (notes.new ≡ noted notes.old (written_of modules.now
-        word.now own_name.now others.now inits.now statements.now scopes.old sofar.old).notes) }
-    ensures scope { OnOk result (scopes.new ≡ scopes.old) }
-{
-    let names = denotations(alloc, inits, scopes)?;
-    let word = copy_word(alloc, word)?;
-    let head = read_head(alloc, own_name, others, scopes, notes)?;
-    let inside = read_inside(
-        alloc, modules, &names, inits, statements, scopes, sofar, notes,
-    )?;
-    scopes.leave();
-    let Head { own_name, params } = head;
-    Ok(CheckedConstructor::Written(word, own_name, params, inside.inits, inside.setups))
-}
+    // `SC_CTOR`
+    #[tactic(auto, using(ooo_bodies::specs::Noting::noted_append))]
+    fn named(
+        self,
+        text: Text<'_>,
+        scopes: &mut Scopes,
+        sofar: &mut Sofar,
+        notes: &mut Notes,
+    ) -> Result<CheckedConstructor, AllocError>
+        ensures tree { IfOk result (λ tree. tree ≡ (named_of self.entry.modules.now
+            text.entry.word.now text.entry.inits.now text.entry.statements.now
+            scopes.old sofar.old).tree) }
+        ensures behind { OnOk result (sofar.new ≡ (named_of self.entry.modules.now
+            text.entry.word.now text.entry.inits.now text.entry.statements.now
+            scopes.old sofar.old).behind) }
+        ensures notes { OnOk result (notes.new ≡ noted notes.old (named_of self.entry.modules.now
+            text.entry.word.now text.entry.inits.now text.entry.statements.now
+            scopes.old sofar.old).notes) }
+        ensures scope { OnOk result (scopes.new ≡ scopes.old) }
+    {
+        let names = denotations(self.alloc, text.inits, scopes)?;
+        let word = copy_word(self.alloc, text.word)?;
+        scopes.enter()?;
+        let inside = self.inside(&names, text, scopes, sofar, notes)?;
+        scopes.leave();
+        Ok(CheckedConstructor::Named(word, inside.inits, inside.setups))
+    }
 
-/// A constructor, whose parameters stand in a block of their own.
-///
-/// # Errors
-///
-/// Only where memory runs out; what was noted until then is kept.
-#[tactic(auto, using(ooo_bodies::specs::Noting::noted_append))]
-pub fn constructor(
-    alloc: Global,
-    modules: &[Option<ModuleFacts>],
-    module_name: &[u8],
-    constructor: &Constructor,
-    scopes: &mut Scopes,
-    sofar: &mut Sofar,
-    notes: &mut Notes,
-) -> Result<CheckedConstructor, AllocError>
-    ensures tree { IfOk result (λ tree. tree ≡ (constructor_of modules.now module_name.now
-        scopes.old constructor.now sofar.old).tree) }
-    ensures behind { OnOk result (sofar.new ≡ (constructor_of modules.now module_name.now
-        scopes.old constructor.now sofar.old).behind) }
-    ensures notes { OnOk result (notes.new ≡ noted notes.old (constructor_of modules.now
-        module_name.now scopes.old constructor.now sofar.old).notes) }
-    ensures scope { OnOk result (scopes.new ≡ scopes.old) }
-{
-    match constructor {
-        Constructor::Named(word, inits, statements) => {
-            note_constructor(module_name, sofar.has_constructor, word, notes);
-            named(
-                alloc, modules, word, inits, statements, scopes, sofar, notes,
-            )
-        }
-        Constructor::Written(word, own_name, others, inits, statements) => {
-            note_constructor(module_name, sofar.has_constructor, word, notes);
-            written(
-                alloc, modules, word, own_name, others, inits, statements, scopes, sofar, notes,
-            )
+    // A constructor with parameters.
+    #[tactic(auto, using(ooo_bodies::specs::Noting::noted_append))]
+    fn written(
+        self,
+        text: Text<'_>,
+        params: Params<'_>,
+        scopes: &mut Scopes,
+        sofar: &mut Sofar,
+        notes: &mut Notes,
+    ) -> Result<CheckedConstructor, AllocError>
+        ensures tree { IfOk result (λ tree. tree ≡ (written_of self.entry.modules.now
+            text.entry.word.now params.entry.own_name.now params.entry.others.now
+            text.entry.inits.now text.entry.statements.now scopes.old sofar.old).tree) }
+        ensures behind { OnOk result (sofar.new ≡ (written_of self.entry.modules.now
+            text.entry.word.now params.entry.own_name.now params.entry.others.now
+            text.entry.inits.now text.entry.statements.now scopes.old sofar.old).behind) }
+        ensures notes { OnOk result (notes.new ≡ noted notes.old (written_of
+            self.entry.modules.now text.entry.word.now params.entry.own_name.now
+            params.entry.others.now text.entry.inits.now text.entry.statements.now
+            scopes.old sofar.old).notes) }
+        ensures scope { OnOk result (scopes.new ≡ scopes.old) }
+    {
+        let names = denotations(self.alloc, text.inits, scopes)?;
+        let word = copy_word(self.alloc, text.word)?;
+        let head = read_head(self.alloc, params, scopes, notes)?;
+        let inside = self.inside(&names, text, scopes, sofar, notes)?;
+        scopes.leave();
+        let Head { own_name, params } = head;
+        Ok(CheckedConstructor::Written(word, own_name, params, inside.inits, inside.setups))
+    }
+
+    /// A constructor, whose parameters stand in a block of their own.
+    ///
+    /// # Errors
+    ///
+    /// Only where memory runs out; what was noted until then is kept.
+    #[tactic(auto, using(ooo_bodies::specs::Noting::noted_append))]
+    pub fn constructor(
+        self,
+        constructor: &Constructor,
+        scopes: &mut Scopes,
+        sofar: &mut Sofar,
+        notes: &mut Notes,
+    ) -> Result<CheckedConstructor, AllocError>
+        ensures tree { IfOk result (λ tree. tree ≡ (constructor_of self.entry.modules.now
+            self.entry.module_name.now scopes.old constructor.now sofar.old).tree) }
+        ensures behind { OnOk result (sofar.new ≡ (constructor_of self.entry.modules.now
+            self.entry.module_name.now scopes.old constructor.now sofar.old).behind) }
+        ensures notes { OnOk result (notes.new ≡ noted notes.old (constructor_of
+            self.entry.modules.now self.entry.module_name.now scopes.old
+            constructor.now sofar.old).notes) }
+        ensures scope { OnOk result (scopes.new ≡ scopes.old) }
+    {
+        match constructor {
+            Constructor::Named(word, inits, statements) => {
+                let text = Text {
+                    word,
+                    inits,
+                    statements,
+                };
+                note_constructor(self.module_name, sofar.has_constructor, word, notes);
+                self.named(text, scopes, sofar, notes)
+            }
+            Constructor::Written(word, own_name, others, inits, statements) => {
+                let text = Text {
+                    word,
+                    inits,
+                    statements,
+                };
+                let params = Params { own_name, others };
+                note_constructor(self.module_name, sofar.has_constructor, word, notes);
+                self.written(text, params, scopes, sofar, notes)
+            }
         }
     }
 }

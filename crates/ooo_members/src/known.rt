@@ -9,6 +9,7 @@ use ooo_lexer::Position;
 use ooo_scopes::Scopes;
 use ooo_value::ProcessKind;
 use sqlite_items::{Items, at};
+use std::alloc::Global;
 
 /// What a name denotes that is not known.
 pub const UNKNOWN: Denotation = Denotation {
@@ -23,6 +24,19 @@ pub struct ModuleFacts {
     pub names: Scopes,
     /// How many parameters its constructor has.
     pub params: usize,
+}
+
+/// What the members of a module are read by.
+#[derive(Clone, Copy)]
+pub struct Surroundings<'a> {
+    /// Where memory is taken from.
+    pub alloc: Global,
+    /// What is known of the modules of the file, by the numbers of their names.
+    pub modules: &'a [Option<ModuleFacts>],
+    /// The module's own name.
+    pub module_name: &'a [u8],
+    /// The names that its constructors initialise, by themselves.
+    pub initialised: &'a Scopes,
 }
 
 /// What has to be known of a function when all of its module is known.

@@ -10,9 +10,8 @@ ghost use Rattle.ooo_members.specs.Members.{parts_of};
 
 use crate::args::{args, constant, is_form_of};
 use crate::bodies::known_function;
-use crate::constructors::constructor;
 use crate::declarations::{channel_thing, instance_thing, is_module};
-use crate::known::{FunctionFacts, ModuleFacts, Sofar};
+use crate::known::{FunctionFacts, Sofar, Surroundings};
 use ooo_bodies::copies::{copy_word, kind_written, resolve};
 use ooo_bodies::notes::Notes;
 use ooo_checked::{
@@ -139,7 +138,14 @@ fn names(alloc: Global, words: &Items<Word>, scopes: &Scopes) -> Result<Items<Re
     Ok(all)
 }
 
-/// The arguments of a part that is this thing, if it has some, where an instance's module has this many parameters.
+/// What a part is, and how many parameters the constructor of its module has, if it is an instance of a known one.
+#[derive(Clone, Copy)]
+pub struct PartForm {
+    pub thing: Thing,
+    pub params: Option<usize>,
+}
+
+/// The arguments of a part of this form, if it has some.
 ///
 /// # Errors
 ///
@@ -147,8 +153,7 @@ fn names(alloc: Global, words: &Items<Word>, scopes: &Scopes) -> Result<Items<Re
 #[tactic(auto, using(ooo_bodies::specs::Noting::noted_append))]
 pub fn option_args(
     alloc: Global,
-    thing: Thing,
-    params: Option<usize>,
+    form: PartForm,
     word: &Word,
     given: &Option<Items<Arg>>,
     scopes: &Scopes,
@@ -156,12 +161,12 @@ pub fn option_args(
 ) -> Result<Option<Items<CheckedArg>>, AllocError>
     ensures tree { IfOk result (λ tree. tree ≡ option_args given.now scopes.now) }
     ensures notes { OnOk result (notes.new
-        ≡ noted notes.old (part_notes thing params word.now given.now scopes.now)) }
+        ≡ noted notes.old (part_notes form.thing form.params word.now given.now scopes.now)) }
 {
     match given {
         None => Ok(None),
         Some(given) => {
-            let has_form = is_form_of(thing, params, given.as_slice());
+            let has_form = is_form_of(form.thing, form.params, given.as_slice());
             notes.breaks_when(!has_form, TypeBreach::WrongCount, word.position);
             let all = args(alloc, given, scopes, notes)?;
             Ok(Some(all))
@@ -169,42 +174,40 @@ pub fn option_args(
     }
 }
 
-// A part that is this thing.
+// A part of this form.
 fn part(
     alloc: Global,
-    thing: Thing,
-    params: Option<usize>,
+    form: PartForm,
     part: &Part,
     scopes: &Scopes,
     notes: &mut Notes,
 ) -> Result<CheckedPart, AllocError>
     ensures tree { IfOk result (λ tree.
-        tree ≡ (part_of thing params part.now scopes.now).tree) }
+        tree ≡ (part_of form.thing form.params part.now scopes.now).tree) }
     ensures notes { OnOk result (notes.new
-        ≡ noted notes.old (part_of thing params part.now scopes.now).notes) }
+        ≡ noted notes.old (part_of form.thing form.params part.now scopes.now).notes) }
 {
     let name = resolve(alloc, scopes, &part.name)?;
-    let args = option_args(alloc, thing, params, &part.name, &part.args, scopes, notes)?;
+    let args = option_args(alloc, form, &part.name, &part.args, scopes, notes)?;
     Ok(CheckedPart { name, args })
 }
 
-// Parts that are this thing.
+// Parts of this form.
 fn parts(
     alloc: Global,
-    thing: Thing,
-    params: Option<usize>,
+    form: PartForm,
     parts: &Items<Part>,
     scopes: &Scopes,
     notes: &mut Notes,
 ) -> Result<Items<CheckedPart>, AllocError>
     ensures trees { IfOk result (λ all.
-        all ≡ trees (parts_of thing params parts.now scopes.now)) }
+        all ≡ trees (parts_of form.thing form.params parts.now scopes.now)) }
     ensures notes { OnOk result (notes.new
-        ≡ noted notes.old (all_notes (parts_of thing params parts.now scopes.now))) }
+        ≡ noted notes.old (all_notes (parts_of form.thing form.params parts.now scopes.now))) }
 {
     let mut all = Items::new(alloc);
     'parts: for e in parts.as_slice() {
-        all.push(part(alloc, thing, params, e, scopes, notes)?)?;
+        all.push(part(alloc, form, e, scopes, notes)?)?;
     }
     Ok(all)
 }
@@ -221,7 +224,11 @@ fn channels(
         ≡ noted notes.old (channels_of channels.now scopes.now).notes) }
 {
     let thing = channel_thing(channels.channel, kind_written(channels.form.form));
-    let all = parts(alloc, thing, None, &channels.parts, scopes, notes)?;
+    let form = PartForm {
+        thing,
+        params: None,
+    };
+    let all = parts(alloc, form, &channels.parts, scopes, notes)?;
     Ok(CheckedChannels {
         channel: channels.channel,
         form: channels.form,
@@ -258,46 +265,44 @@ fn lacks_arguments(initialised: &Scopes, params: Option<usize>, part: &Part) -> 
         && !initialised.is_declared_here(part.name.name.as_bytes())
 }
 
-// A child that is this thing, whose module's constructor has so many parameters.
+// A child of this form.
 #[tactic(auto, using(ooo_bodies::specs::Noting::noted_append))]
 fn child(
     alloc: Global,
     initialised: &Scopes,
-    thing: Thing,
-    params: Option<usize>,
+    form: PartForm,
     declared: &Part,
     scopes: &Scopes,
     notes: &mut Notes,
 ) -> Result<CheckedPart, AllocError>
     ensures tree { IfOk result (λ tree.
-        tree ≡ (child_of initialised.now thing params declared.now scopes.now).tree) }
+        tree ≡ (child_of initialised.now form.thing form.params declared.now scopes.now).tree) }
     ensures notes { OnOk result (notes.new ≡ noted notes.old
-        (child_of initialised.now thing params declared.now scopes.now).notes) }
+        (child_of initialised.now form.thing form.params declared.now scopes.now).notes) }
 {
-    let tree = part(alloc, thing, params, declared, scopes, notes)?;
-    let is_lacking = lacks_arguments(initialised, params, declared);
+    let tree = part(alloc, form, declared, scopes, notes)?;
+    let is_lacking = lacks_arguments(initialised, form.params, declared);
     notes.breaks_when(is_lacking, TypeBreach::WrongCount, declared.name.position);
     Ok(tree)
 }
 
-// Children that are this thing one after the other.
+// Children of this form one after the other.
 fn child_list(
     alloc: Global,
     initialised: &Scopes,
-    thing: Thing,
-    params: Option<usize>,
+    form: PartForm,
     parts: &Items<Part>,
     scopes: &Scopes,
     notes: &mut Notes,
 ) -> Result<Items<CheckedPart>, AllocError>
-    ensures trees { IfOk result (λ all. all ≡ trees (map
-        (λ (p : Part). child_of initialised.now thing params p scopes.now) parts.now)) }
-    ensures notes { OnOk result (notes.new ≡ noted notes.old (all_notes (map
-        (λ (p : Part). child_of initialised.now thing params p scopes.now) parts.now))) }
+    ensures trees { IfOk result (λ all. all ≡ trees (map (λ (p : Part).
+        child_of initialised.now form.thing form.params p scopes.now) parts.now)) }
+    ensures notes { OnOk result (notes.new ≡ noted notes.old (all_notes (map (λ (p : Part).
+        child_of initialised.now form.thing form.params p scopes.now) parts.now))) }
 {
     let mut all = Items::new(alloc);
     'parts: for e in parts.as_slice() {
-        all.push(child(alloc, initialised, thing, params, e, scopes, notes)?)?;
+        all.push(child(alloc, initialised, form, e, scopes, notes)?)?;
     }
     Ok(all)
 }
@@ -319,129 +324,115 @@ fn children(
     let module_name = resolve(alloc, scopes, &children.module_name)?;
     let thing = module_name.denotes.thing;
     notes.name(thing, is_module(thing), children.module_name.position);
-    let child_thing = instance_thing(module_name.denotes, scopes);
-    let params = params_of_module(thing);
-    let parts = &children.parts;
-    let parts = child_list(
-        alloc,
-        initialised,
-        child_thing,
-        params,
-        parts,
-        scopes,
-        notes,
-    )?;
+    let form = PartForm {
+        thing: instance_thing(module_name.denotes, scopes),
+        params: params_of_module(thing),
+    };
+    let parts = child_list(alloc, initialised, form, &children.parts, scopes, notes)?;
     Ok(CheckedChildren { module_name, parts })
 }
 
-/// A member, behind others. A function is added to those that are known, with what has to be known of it.
-///
-/// # Errors
-///
-/// Only where memory runs out; what was noted until then is kept.
-#[tactic(auto, using(ooo_bodies::specs::Noting::noted_append))]
-pub fn member(
-    alloc: Global,
-    modules: &[Option<ModuleFacts>],
-    module_name: &[u8],
-    initialised: &Scopes,
-    declared: &Member,
-    scopes: &mut Scopes,
-    sofar: &mut Sofar,
-    functions: &mut Items<FunctionFacts>,
-    notes: &mut Notes,
-) -> Result<CheckedMember, AllocError>
-    ensures tree { IfOk result (λ tree. tree ≡ (member_of modules.now module_name.now
-        initialised.now scopes.old declared.now sofar.old).tree) }
-    ensures behind { OnOk result (sofar.new ≡ (member_of modules.now module_name.now
-        initialised.now scopes.old declared.now sofar.old).behind) }
-    ensures notes { OnOk result (notes.new ≡ noted notes.old (member_of modules.now
-        module_name.now initialised.now scopes.old declared.now sofar.old).notes) }
-    ensures scope { OnOk result (scopes.new ≡ scopes.old) }
-    ensures functions { OnOk result (functions.new
-        ≡ functions.old ++ functions_in declared.now scopes.old) }
-{
-    match declared {
-        Member::Public => Ok(CheckedMember::Public),
-        Member::Constant(c) => {
-            let name = resolve(alloc, scopes, &c.name)?;
-            let c = constant_named(alloc, name, c, scopes, notes)?;
-            Ok(CheckedMember::Constant(c))
-        }
-        Member::HasProcess(word) => {
-            let is_named_so = word.name.as_bytes() == module_name;
-            notes.breaks_when(!is_named_so, TypeBreach::WrongKind, word.position);
-            Ok(CheckedMember::HasProcess(copy_word(alloc, word)?))
-        }
-        Member::Fields(f) => {
-            let f = fields(alloc, f, scopes, notes)?;
-            Ok(CheckedMember::Fields(f))
-        }
-        Member::Ports(p) => Ok(CheckedMember::Ports(CheckedPorts {
-            port: p.port,
-            form: p.form,
-            names: names(alloc, &p.names, scopes)?,
-        })),
-        Member::Clocks(words) => Ok(CheckedMember::Clocks(names(alloc, words, scopes)?)),
-        Member::Channels(c) => {
-            let c = channels(alloc, c, scopes, notes)?;
-            Ok(CheckedMember::Channels(c))
-        }
-        Member::Events(words) => Ok(CheckedMember::Events(names(alloc, words, scopes)?)),
-        Member::Children(c) => {
-            let c = children(alloc, initialised, c, scopes, notes)?;
-            Ok(CheckedMember::Children(c))
-        }
-        Member::Function(f) => {
-            let f = known_function(alloc, f, scopes, functions, notes)?;
-            Ok(CheckedMember::Function(f))
-        }
-        Member::Constructor(c) => {
-            let c = constructor(alloc, modules, module_name, c, scopes, sofar, notes)?;
-            Ok(CheckedMember::Constructor(c))
+impl Surroundings<'_> {
+    /// A member, behind others. A function is added to those that are known, with what has to be known of it.
+    ///
+    /// # Errors
+    ///
+    /// Only where memory runs out; what was noted until then is kept.
+    #[tactic(auto, using(ooo_bodies::specs::Noting::noted_append))]
+    pub fn member(
+        self,
+        declared: &Member,
+        scopes: &mut Scopes,
+        sofar: &mut Sofar,
+        functions: &mut Items<FunctionFacts>,
+        notes: &mut Notes,
+    ) -> Result<CheckedMember, AllocError>
+        ensures tree { IfOk result (λ tree. tree ≡ (member_of self.entry.modules.now
+            self.entry.module_name.now self.entry.initialised.now
+            scopes.old declared.now sofar.old).tree) }
+        ensures behind { OnOk result (sofar.new ≡ (member_of self.entry.modules.now
+            self.entry.module_name.now self.entry.initialised.now
+            scopes.old declared.now sofar.old).behind) }
+        ensures notes { OnOk result (notes.new ≡ noted notes.old (member_of
+            self.entry.modules.now self.entry.module_name.now self.entry.initialised.now
+            scopes.old declared.now sofar.old).notes) }
+        ensures scope { OnOk result (scopes.new ≡ scopes.old) }
+        ensures functions { OnOk result (functions.new
+            ≡ functions.old ++ functions_in declared.now scopes.old) }
+    {
+        let alloc = self.alloc;
+        match declared {
+            Member::Public => Ok(CheckedMember::Public),
+            Member::Constant(c) => {
+                let name = resolve(alloc, scopes, &c.name)?;
+                let c = constant_named(alloc, name, c, scopes, notes)?;
+                Ok(CheckedMember::Constant(c))
+            }
+            Member::HasProcess(word) => {
+                let is_named_so = word.name.as_bytes() == self.module_name;
+                notes.breaks_when(!is_named_so, TypeBreach::WrongKind, word.position);
+                Ok(CheckedMember::HasProcess(copy_word(alloc, word)?))
+            }
+            Member::Fields(f) => {
+                let f = fields(alloc, f, scopes, notes)?;
+                Ok(CheckedMember::Fields(f))
+            }
+            Member::Ports(p) => Ok(CheckedMember::Ports(CheckedPorts {
+                port: p.port,
+                form: p.form,
+                names: names(alloc, &p.names, scopes)?,
+            })),
+            Member::Clocks(words) => Ok(CheckedMember::Clocks(names(alloc, words, scopes)?)),
+            Member::Channels(c) => {
+                let c = channels(alloc, c, scopes, notes)?;
+                Ok(CheckedMember::Channels(c))
+            }
+            Member::Events(words) => Ok(CheckedMember::Events(names(alloc, words, scopes)?)),
+            Member::Children(c) => {
+                let c = children(alloc, self.initialised, c, scopes, notes)?;
+                Ok(CheckedMember::Children(c))
+            }
+            Member::Function(f) => {
+                let f = known_function(alloc, f, scopes, functions, notes)?;
+                Ok(CheckedMember::Function(f))
+            }
+            Member::Constructor(c) => {
+                let c = self.constructor(c, scopes, sofar, notes)?;
+                Ok(CheckedMember::Constructor(c))
+            }
         }
     }
-}
 
-/// Members one after the other.
-///
-/// # Errors
-///
-/// Only where memory runs out; what was noted until then is kept.
-pub fn members(
-    alloc: Global,
-    modules: &[Option<ModuleFacts>],
-    module_name: &[u8],
-    initialised: &Scopes,
-    members: &Items<Member>,
-    scopes: &mut Scopes,
-    sofar: &mut Sofar,
-    functions: &mut Items<FunctionFacts>,
-    notes: &mut Notes,
-) -> Result<Items<CheckedMember>, AllocError>
-    ensures trees { IfOk result (λ all. all ≡ (members_of modules.now module_name.now
-        initialised.now scopes.old members.now sofar.old).tree) }
-    ensures behind { OnOk result (sofar.new ≡ (members_of modules.now module_name.now
-        initialised.now scopes.old members.now sofar.old).behind) }
-    ensures notes { OnOk result (notes.new ≡ noted notes.old (members_of modules.now
-        module_name.now initialised.now scopes.old members.now sofar.old).notes) }
-    ensures scope { OnOk result (scopes.new ≡ scopes.old) }
-    ensures functions { OnOk result (functions.new
-        ≡ functions.old ++ functions_of members.now scopes.old) }
-{
-    let mut all = Items::new(alloc);
-    'parts: for e in members.as_slice() {
-        all.push(member(
-            alloc,
-            modules,
-            module_name,
-            initialised,
-            e,
-            scopes,
-            sofar,
-            functions,
-            notes,
-        )?)?;
+    /// Members one after the other.
+    ///
+    /// # Errors
+    ///
+    /// Only where memory runs out; what was noted until then is kept.
+    pub fn members(
+        self,
+        members: &Items<Member>,
+        scopes: &mut Scopes,
+        sofar: &mut Sofar,
+        functions: &mut Items<FunctionFacts>,
+        notes: &mut Notes,
+    ) -> Result<Items<CheckedMember>, AllocError>
+        ensures trees { IfOk result (λ all. all ≡ (members_of self.entry.modules.now
+            self.entry.module_name.now self.entry.initialised.now
+            scopes.old members.now sofar.old).tree) }
+        ensures behind { OnOk result (sofar.new ≡ (members_of self.entry.modules.now
+            self.entry.module_name.now self.entry.initialised.now
+            scopes.old members.now sofar.old).behind) }
+        ensures notes { OnOk result (notes.new ≡ noted notes.old (members_of
+            self.entry.modules.now self.entry.module_name.now self.entry.initialised.now
+            scopes.old members.now sofar.old).notes) }
+        ensures scope { OnOk result (scopes.new ≡ scopes.old) }
+        ensures functions { OnOk result (functions.new
+            ≡ functions.old ++ functions_of members.now scopes.old) }
+    {
+        let mut all = Items::new(self.alloc);
+        'parts: for e in members.as_slice() {
+            all.push(self.member(e, scopes, sofar, functions, notes)?)?;
+        }
+        Ok(all)
     }
-    Ok(all)
 }

@@ -9,8 +9,7 @@ use crate::processes::note_functions;
 use ooo_bodies::notes::Notes;
 use ooo_checked::{CheckedMember, CheckedModule, Resolved};
 use ooo_members::declarations::declare_members;
-use ooo_members::known::{ModuleFacts, NOT_REGISTERED, Registration, Sofar, UNKNOWN};
-use ooo_members::members::members;
+use ooo_members::known::{ModuleFacts, NOT_REGISTERED, Registration, Sofar, Surroundings, UNKNOWN};
 use ooo_scopes::Scopes;
 use ooo_syntax::{Constructor, Init, Member, Module};
 use sqlite_items::Items;
@@ -140,18 +139,13 @@ pub(crate) fn module(
     let mut sofar = at_first(alloc, scopes.size().saturating_sub(outside))?;
     let mut functions = Items::new(alloc);
     let initialised = initialised(alloc, all)?;
-    let own_name = declared.name.name.as_bytes();
-    let members = members(
+    let surroundings = Surroundings {
         alloc,
         modules,
-        own_name,
-        &initialised,
-        all,
-        scopes,
-        &mut sofar,
-        &mut functions,
-        notes,
-    )?;
+        module_name: declared.name.name.as_bytes(),
+        initialised: &initialised,
+    };
+    let members = surroundings.members(all, scopes, &mut sofar, &mut functions, notes)?;
     scopes.leave();
     note_functions(alloc, &sofar, &functions, notes)?;
     Ok(CheckedModule { name, members })

@@ -21,7 +21,7 @@ use ooo_members::args::{args, constant_time, is_instance_form};
 use ooo_members::bodies::name;
 use ooo_members::declarations::{channel_thing, declare, denotation, instance_thing, is_module};
 use ooo_members::known::ModuleFacts;
-use ooo_members::members::{constant_named, option_args, params_of_module};
+use ooo_members::members::{PartForm, constant_named, option_args, params_of_module};
 use ooo_members::setups::binding;
 use ooo_scopes::Scopes;
 use ooo_syntax::{
@@ -249,15 +249,11 @@ fn channel(
 {
     let thing = channel_thing(channel.channel, kind_written(channel.form.form));
     let name = own(alloc, outside, thing, &channel.name, scopes)?;
-    let args = option_args(
-        alloc,
+    let form = PartForm {
         thing,
-        None,
-        &channel.name,
-        &channel.args,
-        scopes,
-        notes,
-    )?;
+        params: None,
+    };
+    let args = option_args(alloc, form, &channel.name, &channel.args, scopes, notes)?;
     let tree = CheckedMainChannel {
         channel: channel.channel,
         form: channel.form,

@@ -8,7 +8,7 @@ use Rattle.ooo_members.proofs.members.child_list.Given as goal
 
 abbrev pub invariant-parts : goal.invariant-parts
 invariant-parts l =
-    let f : Part → Checked CheckedPart = λ p. child_of l.initialised l.thing l.params p l.scopes in record {
+    let f : Part → Checked CheckedPart = λ p. child_of l.initialised l.form.thing l.form.params p l.scopes in record {
       trees : l.all ++ trees (map f (drop l.e-index l.e-items)) ≡ trees (map f l.e-items);
       notes : noted l.notes (all_notes (map f (drop l.e-index l.e-items))) ≡ noted l.initial.notes (all_notes (map f l.e-items));
     }

@@ -9,7 +9,7 @@ use Rattle.ooo_members.proofs.members.parts.Goals as goal
 pub parts-preserved : goal.parts-preserved
 parts-preserved c =
     let xs : List Part = c.as_slice-e-items.result.now in
-    let f : Part → Checked CheckedPart = λ p. part_of c.args.thing c.args.params p c.args.scopes.now in record {
+    let f : Part → Checked CheckedPart = λ p. part_of c.args.form.thing c.args.form.params p c.args.scopes.now in record {
       trees = trees_step f c.parts.all c.push.new.self xs c.parts.e-index c.e-item.result c.in_ok-part.field-0
           c.parts-test.true c.e-item.is c.in_ok-part.ensures.tree c.in_ok-push.ensures.ok c.parts.invariant.trees;
       notes = notes_step f c.args.notes.now c.parts.notes c.part.new.notes xs c.parts.e-index c.e-item.result

@@ -8,17 +8,17 @@ use Rattle.ooo_members.specs.declared.known.Sofar.{Sofar}
 use Rattle.ooo_members.specs.Members.{functions_in, functions_of, member_of, members_of}
 use Rattle.ooo_members.specs.Turns.{Turn, turn_trees, turn_behind, turn_notes}
 use Rattle.ooo_members.proofs.FunctionLists.{functions_step}
-use Rattle.ooo_members.proofs.members.members.Goals as goal
+use Rattle.ooo_members.proofs.known.Surroundings.members.Goals as goal
 
 pub parts-preserved : goal.parts-preserved
 parts-preserved c =
     let xs : List Member = c.as_slice-e-items.result.now in
     let s : Scope = c.args.scopes.now in
     let in_scope : Scope → Member → Sofar → Turn Sofar CheckedMember =
-    λ s m before. member_of c.args.modules.now c.args.module_name.now c.args.initialised.now s m before in
+    λ s m before. member_of c.args.self.modules.now c.args.self.module_name.now c.args.self.initialised.now s m before in
     let f : Member → Sofar → Turn Sofar CheckedMember = in_scope s in
     let whole : Turn Sofar (List CheckedMember) =
-    members_of c.args.modules.now c.args.module_name.now c.args.initialised.now s xs c.args.sofar.now in
+    members_of c.args.self.modules.now c.args.self.module_name.now c.args.self.initialised.now s xs c.args.sofar.now in
     let same : c.parts.scopes ≡ s = c.parts.invariant.scope in
     let tree : c.in_ok-member.field-0 ≡ (f c.e-item.result c.parts.sofar).tree =
     c.in_ok-member.ensures.tree ∙ ap (λ u. (in_scope u c.e-item.result c.parts.sofar).tree) same in
