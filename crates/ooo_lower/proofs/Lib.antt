@@ -3,9 +3,12 @@ mod Blocks
 mod Firsts
 mod Puts
 mod Shaped
-mod Weights
 mod Measured
 mod Given
 mod Emitted
 mod Stated
 mod Sized
+mod Owing
+mod Left
+mod Apart
+mod Called

@@ -5,8 +5,9 @@ use Rattle.ooo_bound.specs.declared.stat.BoundStat.{BoundStat, BoundStat-F, map-
 use Rattle.ooo_bound.specs.declared.stat.BoundStat.TheOpen as layer
 use Rattle.ooo_bound.specs.declared.stat.BoundStat.TheVariants as tree
 use Rattle.ooo_bound.specs.declared.stat.LinedSimple.{LinedSimple}
+use Rattle.ooo_code.specs.declared.node.NodeKind.TheVariants as kind
 use Rattle.ooo_shapes.specs.Simples.{Home}
-use Rattle.ooo_shapes.specs.Shapes.{Shape, Callees, after_shape, all_shapes, body_shape, do_shape, if_shape, lined_shapes, loop_shape, shape_of, shape_step, test_or_true, then}
+use Rattle.ooo_shapes.specs.Shapes.{Shape, Callees, after_shape, all_shapes, body_shape, do_shape, if_shape, jump_shape, lined_shape, lined_shapes, loop_shape, return_kind, shape_of, shape_step, test_or_true, then}
 use Rattle.ooo_lower.specs.Extents.{else_shape}
 
 shape_at : (h : Home) (cs : Callees) (y : BoundStat-F BoundStat) → shape_of h cs (roll-BoundStat y) ≡ shape_step h cs (map-BoundStat BoundStat Shape (shape_of h cs) y)
@@ -32,3 +33,15 @@ shape_Do h cs line a e = ap (shape_of h cs) (sym (tree.rolls-Do line a e)) ∙ s
 
 pub shape_For : (h : Home) (cs : Callees) (line : ℕ) (begin : List LinedSimple) (e : Option BoundExpr) (after : Option LinedSimple) (a : BoundStat) → shape_of h cs (tree.For line begin e after a) ≡ then (lined_shapes h cs begin) (loop_shape line (test_or_true e) (after_shape h cs after) (shape_of h cs a))
 shape_For h cs line begin e after a = ap (shape_of h cs) (sym (tree.rolls-For line begin e after a)) ∙ shape_at h cs (layer.For line begin e after a)
+
+pub shape_Simple : (h : Home) (cs : Callees) (x : LinedSimple) → shape_of h cs (tree.Simple x) ≡ lined_shape h cs x
+shape_Simple h cs x = ap (shape_of h cs) (sym (tree.rolls-Simple x)) ∙ shape_at h cs (layer.Simple x)
+
+pub shape_Break : (h : Home) (cs : Callees) (line : ℕ) → shape_of h cs (tree.Break line) ≡ jump_shape line (λ t. kind.Goto) (λ t. t.break_to)
+shape_Break h cs line = ap (shape_of h cs) (sym (tree.rolls-Break line)) ∙ shape_at h cs (layer.Break line)
+
+pub shape_Continue : (h : Home) (cs : Callees) (line : ℕ) → shape_of h cs (tree.Continue line) ≡ jump_shape line (λ t. kind.Goto) (λ t. t.continue_to)
+shape_Continue h cs line = ap (shape_of h cs) (sym (tree.rolls-Continue line)) ∙ shape_at h cs (layer.Continue line)
+
+pub shape_Return : (h : Home) (cs : Callees) (line : ℕ) (e : Option BoundExpr) → shape_of h cs (tree.Return line e) ≡ jump_shape line (λ t. return_kind t e) (λ t. t.return_to)
+shape_Return h cs line e = ap (shape_of h cs) (sym (tree.rolls-Return line e)) ∙ shape_at h cs (layer.Return line e)

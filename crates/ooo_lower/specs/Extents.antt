@@ -1,19 +1,49 @@
 -- How large shapes are.
-use Rattle.std.specs.Prelude.{◌≡◌, ℕ, List, length, Option, Some, None}
+use Rattle.std.specs.Prelude.{◌≡◌, ℕ, ◌+◌, ◌≤◌, max, List, length, Option, Some, None, slice_get}
 use Rattle.ooo_bound.specs.declared.expr.BoundExpr.{BoundExpr}
+use Rattle.ooo_bound.specs.declared.model.Bound.{Bound}
+use Rattle.ooo_bound.specs.declared.model.BoundFunction.{BoundFunction}
 use Rattle.ooo_bound.specs.declared.stat.BoundStat.{BoundStat}
 use Rattle.ooo_bound.specs.declared.stat.LinedSimple.{LinedSimple}
 use Rattle.ooo_lower.specs.declared.extents.Extent.{Extent}
+use Rattle.ooo_lower.specs.declared.scene.Known.{Known}
 use Rattle.ooo_shapes.specs.Simples.{Home}
-use Rattle.ooo_shapes.specs.Shapes.{Shape, Callees, after_shape, empty, lead_size, lead_slots, lined_shapes, loop_shape, shape_of, test_or_true, then}
+use Rattle.ooo_shapes.specs.Shapes.{Shape, Callees, after_shape, body_shape, call_kinds, callees_within, empty, lined_shapes, loop_shape, shape_of, test_or_true, then}
 
--- how many nodes and slots a shape has
-abbrev pub IsExtent : Extent → Shape → Type 0
-IsExtent e x = (e.nodes ≡ x.size) × (e.slots ≡ length x.slots)
+-- a number of nodes where functions are called, which go by the static events of the process and by the callees
+abbrev pub Count : Type 0
+Count = Home → Callees → ℕ
 
--- the same of what follows each turn of a loop, and the way past it
-abbrev pub IsLead : Extent → Option Shape → Type 0
-IsLead e x = (e.nodes ≡ lead_size x) × (e.slots ≡ length (lead_slots x))
+-- a process of a model that has these static events
+abbrev pub home_in : Bound → (sensitive : List ℕ) → Home
+home_in b sensitive = record { model = b; sensitive = sensitive }
+
+-- so many nodes wherever calls are nested so deep at least as the extent says
+abbrev pub Measures : Extent → Bound → Count → Type 0
+Measures e b count =
+    (sensitive : List ℕ) (depth : ℕ) → e.depth ≤ depth →
+    e.nodes ≡ count (home_in b sensitive) (callees_within depth (home_in b sensitive))
+
+-- two parts one after the other
+abbrev pub IsThen : (a b e : Extent) → Type 0
+IsThen a b e = (e.nodes ≡ a.nodes + b.nodes) × (e.depth ≡ max a.depth b.depth)
+
+-- how many nodes a call of a function has, but for its arguments
+abbrev pub called_size : Home → Callees → BoundFunction → ℕ
+called_size h callees f = 1 + (length (call_kinds f) + ((body_shape h callees f.body).size + 1))
+
+-- the extent of a call of a function but for its arguments and for the call itself
+abbrev pub IsExtentOf : Extent → Bound → BoundFunction → Type 0
+IsExtentOf e b f = Measures e b (λ h callees. called_size h callees f)
+
+-- what is known are the extents of calls, by the functions' numbers
+abbrev pub AreExtents : Bound → List (Option Extent) → Type 0
+AreExtents b known =
+    (f : ℕ) (function : BoundFunction) (e : Extent) →
+    slice_get b.functions f ≡ Some function → slice_get known f ≡ Some (Some e) → IsExtentOf e b function
+
+abbrev pub IsKnown : Known → Type 0
+IsKnown known = AreExtents known.model.now known.extents.now
 
 -- the statement after `else`, if there is one
 abbrev pub else_shape : Home → Callees → Option BoundStat → Shape

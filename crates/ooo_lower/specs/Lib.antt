@@ -4,6 +4,6 @@ pub mod Codes
 pub mod Extents
 pub mod Changes
 pub mod Parts
-pub mod Heads
 pub mod Lowered
 pub mod Weighing
+pub mod Tasks

@@ -4,4 +4,4 @@ use Rattle.ooo_shapes.specs.Simples.{Home}
 
 -- a scene, as it is lent
 abbrev pub home_at : Scene → Home
-home_at s = record { model = s.model.now; sensitive = s.sensitive.now }
+home_at s = record { model = s.known.model.now; sensitive = s.sensitive.now }

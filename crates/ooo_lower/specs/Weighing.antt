@@ -1,7 +1,8 @@
 -- The size of the code, by the size of each body and the calls in it.
-use Rattle.std.specs.Prelude.{◌≡◌, ℕ, zero, suc, ◌+◌, ◌<◌, List, [], ◌∷◌, Option, Some, None, slice_get}
+use Rattle.std.specs.Prelude.{◌≡◌, ℕ, zero, suc, ◌+◌, ◌<◌, List, [], ◌∷◌, ◌++◌, map, Option, Some, None, slice_get}
 use Rattle.ooo_bound.specs.declared.model.BoundFunction.{BoundFunction}
 use Rattle.ooo_bound.specs.declared.stat.BoundStat.{BoundStat}
+use Rattle.ooo_lower.specs.declared.sizes.Owed.{Owed}
 use Rattle.ooo_lower.specs.declared.sizes.Weight.{Weight}
 use Rattle.ooo_shapes.specs.Sizes.{Sizes, body_size, stat_size}
 
@@ -47,3 +48,37 @@ sizes_by (suc depth) ws f = found_size (weight_by (sizes_by depth ws)) (slice_ge
 abbrev pub IsLeft : (size left : ℕ) → Option ℕ → Type 0
 IsLeft size left None = left < size
 IsLeft size left (Some rest) = rest + size ≡ left
+
+-- ---- calls whose sizes are still to be taken off
+
+-- the calls of a body whose own calls are nested no deeper than this
+abbrev pub owed_calls : (depth : ℕ) → List ℕ → List Owed
+owed_calls depth fs = map (λ f. record { function = f; depth = depth }) fs
+
+-- the sizes of what they call, together
+abbrev pub owed_size : List Weight → List Owed → ℕ
+owed_size ws [] = 0
+owed_size ws (o ∷ os) = sizes_by o.depth ws o.function + owed_size ws os
+
+-- how many calls a call of a function leads to
+abbrev pub calls_within : (depth : ℕ) → List Weight → Sizes
+calls_within zero ws f = 0
+calls_within (suc depth) ws f = found_size (λ w. calls_size (λ g. 1 + calls_within depth ws g) w.calls) (slice_get ws f)
+
+-- how many calls are to be gone through
+abbrev pub owed_count : List Weight → List Owed → ℕ
+owed_count ws [] = 0
+owed_count ws (o ∷ os) = 1 + calls_within o.depth ws o.function + owed_count ws os
+
+-- what is left of a number once the own size of a body is taken off, whose calls are then owed; nothing, where it is more
+abbrev pub SpendsOwn : Weight → (depth left : ℕ) → (old new : List Owed) → Option ℕ → Type 0
+SpendsOwn w depth left old new None = left < w.own
+SpendsOwn w depth left old new (Some rest) = (rest + w.own ≡ left) × (new ≡ old ++ owed_calls depth w.calls)
+
+-- what is left of a number once the own size of a called body is taken off, whose calls are then owed; nothing, where it is
+-- more
+abbrev pub Spends : List Weight → Owed → (left : ℕ) → (old new : List Owed) → Option ℕ → Type 0
+Spends ws call left old new None = left < sizes_by call.depth ws call.function
+Spends ws call left old new (Some rest) =
+    (rest + sizes_by call.depth ws call.function + owed_size ws old ≡ left + owed_size ws new)
+    × (owed_count ws new ≡ calls_within call.depth ws call.function + owed_count ws old)

@@ -8,16 +8,19 @@ ghost use Rattle.ooo_lower.specs.declared.designs.TheConstants.{GREATEST_SIZE};
 ghost use Rattle.ooo_meaning.specs.Runs as by_nodes;
 ghost use Rattle.ooo_shapes.specs.Sizes.{code_size};
 ghost use Rattle.ooo_lower.specs.Codes.{PutsKinds};
+ghost use Rattle.ooo_lower.specs.Extents.{IsKnown};
 ghost use Rattle.ooo_lower.specs.Lowered.{HasProcess};
 ghost use Rattle.ooo_shapes.specs.Designs.{around_process, design_of};
 ghost use Rattle.ooo_shapes.specs.Expressions.{first_kinds};
 
 use crate::calls::push_locals;
 use crate::code::Code;
-use crate::extents::of_stats;
+use crate::extents::{body_size, extents_of};
 use crate::numbers::{behind, narrow};
-use crate::scene::Scene;
-use crate::sizes::is_within;
+use crate::order::callees_first;
+use crate::scene::{Known, Scene};
+use crate::simples::{Site, Spot};
+use crate::sizes::{is_within, weights_of};
 use crate::statements::emit_stats;
 use crate::widths::of_body;
 use ooo_bound::{Bound, BoundProcess};
@@ -66,27 +69,34 @@ fn around_process(widths: Widths, end: u32) -> Around
 // The nodes of a process; answers the process.
 fn lower_process(
     alloc: Global,
-    model: &Bound,
+    known: Known<'_>,
     code: &mut Code,
     process: &BoundProcess,
 ) -> Result<Proc, AllocError>
-    requires { code.old.slots ≡ [] }
-    ensures { IfOk result (λ p. HasProcess model.now process.now p code.old code.new) }
+    requires known { IsKnown known }
+    requires slots { code.old.slots ≡ [] }
+    ensures { IfOk result
+        (λ p. HasProcess known.entry.model.now process.now p code.old code.new) }
 {
     let scene = Scene {
-        model,
+        known,
         sensitive: &process.sensitive,
     };
-    let depth = model.functions.len();
+    let depth = known.model.functions.len();
     let body = process.body.as_slice();
     let widths = of_body(body);
     let first = code.at()?;
-    let size = of_stats(scene, depth, body)?.nodes;
+    let size = body_size(scene, depth, body)?;
     let end = behind(first, narrow(size)?)?;
     push_first(alloc, code)?;
     push_locals(code, widths)?;
-    let t = around_process(widths, end);
-    emit_stats(alloc, scene, code, depth, t, end, body)?;
+    let spot = Spot {
+        around: around_process(widths, end),
+        line: 0,
+        next: end,
+        depth,
+    };
+    emit_stats(Site { alloc, scene, spot }, code, body)?;
     code.put_uncounted(NodeKind::End, 0, end)?;
     let after = code.at()?;
     let sensitive = Items::from_slice(alloc, process.sensitive.as_slice())?;
@@ -102,16 +112,18 @@ fn lower_process(
 }
 
 // The design of a bound model: its statements as nodes, whatever their number.
-fn lowered_design(alloc: Global, model: &Bound) -> Result<Design, AllocError>
-    ensures { IfOk result (λ design. design ≡ design_of model.now) }
+fn lowered_design(alloc: Global, known: Known<'_>) -> Result<Design, AllocError>
+    requires { IsKnown known }
+    ensures { IfOk result (λ design. design ≡ design_of known.entry.model.now) }
 {
+    let model = known.model;
     let mut processes = Items::new(alloc);
     let mut code = Code {
         nodes: Items::new(alloc),
         slots: Items::new(alloc),
     };
     'processes: for process in model.processes.as_slice() {
-        let lowered = lower_process(alloc, model, &mut code, process)?;
+        let lowered = lower_process(alloc, known, &mut code, process)?;
         processes.push(lowered)?;
     }
     let variables = Items::from_slice(alloc, model.variables.as_slice())?;
@@ -135,7 +147,8 @@ pub const GREATEST_SIZE: u64 = 65_536;
 pub enum LowerError {
     /// The code is larger than [`GREATEST_SIZE`].
     CodeTooLarge,
-    /// Memory ran out, which says nothing of the model.
+    /// Memory ran out, which says nothing of the model; or functions call one another in a circle, which those of a sound
+    /// model don't.
     OutOfMemory,
 }
 
@@ -168,9 +181,16 @@ pub fn lower(alloc: Global, model: &Bound) -> Result<Design, LowerError>
 {
     sound_design();
     same_runs();
-    if !is_within(alloc, model, GREATEST_SIZE)? {
+    let weights = weights_of(alloc, model.functions.as_slice())?;
+    if !is_within(alloc, model, weights.as_slice(), GREATEST_SIZE)? {
         return Err(LowerError::CodeTooLarge);
     }
-    let design = lowered_design(alloc, model)?;
+    let order = callees_first(alloc, weights.as_slice())?;
+    let extents = extents_of(alloc, model, order.as_slice())?;
+    let known = Known {
+        model,
+        extents: extents.as_slice(),
+    };
+    let design = lowered_design(alloc, known)?;
     Ok(design)
 }

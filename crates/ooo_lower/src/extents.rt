@@ -1,45 +1,57 @@
-ghost use Rattle.std.specs.Prelude.{◌≡◌, ◌+◌, ◌≤◌, ◌-◌, ℕ, Some, None, IfOk, MatchOption, length, min, slice_get};
+ghost use Rattle.std.specs.Prelude.{◌≡◌, ◌+◌, ◌≤◌, ◌-◌, ℕ, Some, None, IfOk, MatchOption, OnOk, length, max, min};
+ghost use Rattle.std.specs.Prelude.{slice_get};
 ghost use Rattle.ooo_bound.specs.declared.stat.BoundTarget.{BoundTarget as BoundTargetSpec};
-ghost use Rattle.ooo_lower.specs.Extents.{IsExtent, IsLead, else_shape};
-ghost use Rattle.ooo_shapes.specs.Shapes.{Callee, after_shape, assign_shape, body_shape, call_kinds, call_shape};
-ghost use Rattle.ooo_shapes.specs.Shapes.{callees_within, empty, function_widths, lined_shape, lined_shapes};
-ghost use Rattle.ooo_shapes.specs.Shapes.{maybe_shape, shape_of, shape_within};
-ghost use Rattle.ooo_shapes.specs.Widths.{count_of, params_widths};
+ghost use Rattle.ooo_lower.specs.Extents.{AreExtents, IsExtentOf, IsKnown, IsThen, Measures, else_shape};
+ghost use Rattle.ooo_shapes.specs.Shapes.{after_shape, body_shape, call_kinds, call_shape, callees_within};
+ghost use Rattle.ooo_shapes.specs.Shapes.{function_widths, lead_size, lined_shape, lined_shapes, shape_of};
+ghost use Rattle.ooo_shapes.specs.Shapes.{shape_within};
 ghost use Rattle.ooo_lower.specs.Scenes.{home_at};
 
 use crate::numbers::sum;
-use crate::scene::Scene;
+use crate::scene::{Known, Scene};
 use crate::widths::{both, count_of, of_body, of_params};
 use ooo_bound::{
-    BoundExpr, BoundFunction, BoundRight, BoundSimple, BoundStat, BoundTarget, LinedSimple,
+    Bound, BoundExpr, BoundFunction, BoundRight, BoundSimple, BoundStat, BoundTarget, LinedSimple,
 };
 use ooo_shapes::Widths;
 use sqlite_items::{Boxed, Items, at};
-use std::alloc::AllocError;
+use std::alloc::{AllocError, Global};
 
-/// How many nodes and slots a shape has.
-#[derive(Clone, Copy, PartialEq, Eq, Debug)]
+/// How many nodes a shape has, and how deep calls are nested in it.
+#[derive(Clone, Copy)]
 pub(crate) struct Extent {
     pub(crate) nodes: u64,
-    pub(crate) slots: u64,
+    pub(crate) depth: u64,
 }
 
-// So many nodes, and no slot.
+// So many nodes, which call nothing.
 fn plain(nodes: u64) -> Extent
     ensures nodes { result.nodes ≡ nodes }
-    ensures slots { result.slots ≡ 0 }
+    ensures depth { result.depth ≡ 0 }
 {
-    Extent { nodes, slots: 0 }
+    Extent { nodes, depth: 0 }
 }
 
 // Two shapes one after the other.
 fn then(a: Extent, b: Extent) -> Result<Extent, AllocError>
-    ensures { IfOk result (λ e. (e.nodes ≡ a.nodes + b.nodes) × (e.slots ≡ a.slots + b.slots)) }
+    ensures { IfOk result (λ e. IsThen a b e) }
 {
     Ok(Extent {
         nodes: sum(a.nodes, b.nodes)?,
-        slots: sum(a.slots, b.slots)?,
+        depth: a.depth.max(b.depth),
     })
+}
+
+// How many nodes an extent has, where calls may be nested so deep. It is out of memory where they are nested deeper, which
+// those of a sound model aren't.
+fn nodes_within(e: Extent, depth: usize) -> Result<u64, AllocError>
+    ensures nodes { IfOk result (λ n. n ≡ e.nodes) }
+    ensures within { IfOk result (λ n. e.depth ≤ depth) }
+{
+    if e.depth > depth as u64 {
+        return Err(AllocError);
+    }
+    Ok(e.nodes)
 }
 
 /// The slots that the locals of a function need.
@@ -64,7 +76,7 @@ pub(crate) fn call_slots(function: &BoundFunction) -> Result<u64, AllocError>
 /// A function that may be called, where calls are nested no deeper than this.
 pub(crate) fn callee<'a>(scene: Scene<'a>, depth: usize, f: u32) -> Option<&'a BoundFunction>
     ensures { MatchOption result (callees_within depth (home_at scene.entry) f ≡ None) (λ g.
-        (1 ≤ depth) × (slice_get scene.entry.model.now.functions f ≡ Some g.now)
+        (1 ≤ depth) × (slice_get scene.entry.known.model.now.functions f ≡ Some g.now)
         × (callees_within depth (home_at scene.entry) f ≡ Some (record {
           function = g.now;
           body = shape_within (depth - 1) (home_at scene.entry) g.now.body;
@@ -73,7 +85,7 @@ pub(crate) fn callee<'a>(scene: Scene<'a>, depth: usize, f: u32) -> Option<&'a B
     if depth == 0 {
         return None;
     }
-    at(scene.model.functions.as_slice(), f as usize)
+    at(scene.known.model.functions.as_slice(), f as usize)
 }
 
 // How many arguments a call has for the parameters of a function.
@@ -83,43 +95,73 @@ pub(crate) fn given(function: &BoundFunction, args: &[BoundExpr]) -> u64
     function.params.len().min(args.len()) as u64
 }
 
-// A call of a function.
-#[cycle(extents)]
-fn of_call(scene: Scene<'_>, depth: usize, f: u32, args: &[BoundExpr]) -> Result<Extent, AllocError>
-    ensures { (line : ℕ) (into : BoundTargetSpec) → IfOk result (λ e. IsExtent e
-        (call_shape (home_at scene.entry) line into args.now
-        (callees_within depth (home_at scene.entry) f))) }
+// The extent of a call of a function but for its arguments. It is out of memory where it isn't known, as where the function
+// calls itself, by others or not.
+fn known_extent(known: Known<'_>, f: u32) -> Result<Extent, AllocError>
+    ensures { IfOk result (λ e. slice_get known.entry.extents.now f ≡ Some (Some e)) }
 {
-    let Some(function) = callee(scene, depth, f) else {
-        return Ok(plain(0));
-    };
-    let body = of_stats(scene, depth - 1, function.body.as_slice())?;
-    let own = call_slots(function)?;
-    let last = then(body, plain(1))?;
-    let given = then(plain(given(function, args)), last)?;
-    let zeros = Extent {
-        nodes: own,
-        slots: own,
-    };
-    let written = then(zeros, given)?;
-    let all = then(plain(1), written)?;
-    Ok(all)
+    match at(known.extents, f as usize) {
+        Some(Some(extent)) => Ok(*extent),
+        _ => Err(AllocError),
+    }
 }
 
-// A statement without statements in it.
-#[cycle(extents)]
-pub(crate) fn of_lined(
-    scene: Scene<'_>,
-    depth: usize,
-    x: &LinedSimple,
+// The function with a number, if there is it.
+fn function_of<'a>(known: Known<'a>, f: u32) -> Option<&'a BoundFunction>
+    ensures { MatchOption result (slice_get known.entry.model.now.functions f ≡ None)
+        (λ function. slice_get known.entry.model.now.functions f ≡ Some function.now) }
+{
+    at(known.model.functions.as_slice(), f as usize)
+}
+
+// A call of a function that there is.
+fn of_found(
+    known: Known<'_>,
+    f: u32,
+    function: &BoundFunction,
+    args: &[BoundExpr],
 ) -> Result<Extent, AllocError>
-    ensures { IfOk result (λ e. IsExtent e
-        (lined_shape (home_at scene.entry) (callees_within depth (home_at scene.entry)) x.now)) }
+    requires known { IsKnown known }
+    requires found { slice_get known.model.now.functions f ≡ Some function.now }
+    ensures { (line : ℕ) (into : BoundTargetSpec) → IfOk result (λ e.
+        Measures e known.entry.model.now (λ h callees.
+        (call_shape h line into args.now (callees f)).size)) }
+{
+    let called = known_extent(known, f)?;
+    let nodes = sum(called.nodes, given(function, args))?;
+    let depth = sum(1, called.depth)?;
+    Ok(Extent { nodes, depth })
+}
+
+// A call of a function.
+fn of_call(known: Known<'_>, f: u32, args: &[BoundExpr]) -> Result<Extent, AllocError>
+    requires { IsKnown known }
+    ensures { (line : ℕ) (into : BoundTargetSpec) → IfOk result (λ e.
+        Measures e known.entry.model.now (λ h callees.
+        (call_shape h line into args.now (callees f)).size)) }
+{
+    match function_of(known, f) {
+        None => Ok(plain(0)),
+        Some(function) => {
+            let extent = of_found(known, f, function, args)?;
+            Ok(extent)
+        }
+    }
+}
+
+/// A statement without statements in it.
+pub(crate) fn of_lined(known: Known<'_>, x: &LinedSimple) -> Result<Extent, AllocError>
+    requires { IsKnown known }
+    ensures { IfOk result (λ e. Measures e known.entry.model.now (λ h callees.
+        (lined_shape h callees x.now).size)) }
 {
     match &x.simple {
         BoundSimple::Assign(_, right) => match right {
             BoundRight::Value(_) => Ok(plain(1)),
-            BoundRight::Call(f, args) => of_call(scene, depth, *f, args.as_slice()),
+            BoundRight::Call(f, args) => {
+                let extent = of_call(known, *f, args.as_slice())?;
+                Ok(extent)
+            }
             BoundRight::Read(_) => Ok(plain(4)),
             BoundRight::NbRead(_, _) => Ok(plain(6)),
             BoundRight::NbWrite(_, _) => Ok(plain(5)),
@@ -139,81 +181,90 @@ pub(crate) fn of_lined(
 }
 
 /// Simple statements one after the other.
-#[cycle(extents)]
-pub(crate) fn of_lineds(
-    scene: Scene<'_>,
-    depth: usize,
-    xs: &[LinedSimple],
-) -> Result<Extent, AllocError>
-    ensures { IfOk result (λ e. IsExtent e
-        (lined_shapes (home_at scene.entry) (callees_within depth (home_at scene.entry)) xs.now)) }
+pub(crate) fn of_lineds(known: Known<'_>, xs: &[LinedSimple]) -> Result<Extent, AllocError>
+    requires { IsKnown known }
+    ensures { IfOk result (λ e. Measures e known.entry.model.now (λ h callees.
+        (lined_shapes h callees xs.now).size)) }
 {
     let mut all = plain(0);
     'parts: for x in xs {
-        all = then(all, of_lined(scene, depth, x)?)?;
+        let part = of_lined(known, x)?;
+        all = then(all, part)?;
     }
     Ok(all)
 }
 
 // What follows each turn of a loop, and the way past it.
-#[cycle(extents)]
-pub(crate) fn of_lead(
-    scene: Scene<'_>,
-    depth: usize,
-    after: &Option<Boxed<LinedSimple>>,
-) -> Result<Extent, AllocError>
-    ensures { IfOk result (λ e. IsLead e (after_shape (home_at scene.entry)
-        (callees_within depth (home_at scene.entry)) after.now)) }
+fn of_lead(known: Known<'_>, after: &Option<Boxed<LinedSimple>>) -> Result<Extent, AllocError>
+    requires { IsKnown known }
+    ensures { IfOk result (λ e. Measures e known.entry.model.now (λ h callees.
+        lead_size (after_shape h callees after.now))) }
 {
     match after {
         None => Ok(plain(0)),
-        Some(x) => then(plain(1), of_lined(scene, depth, x.get())?),
+        Some(x) => {
+            let step = of_lined(known, x.get())?;
+            let all = then(plain(1), step)?;
+            Ok(all)
+        }
     }
 }
 
 // The statement after `else`, if there is one.
 #[cycle(extents)]
-#[tactic(auto, unfolding(ooo_shapes::specs::Shapes::shape_of))]
-pub(crate) fn of_else(
-    scene: Scene<'_>,
-    depth: usize,
-    no: &Option<Boxed<BoundStat>>,
-) -> Result<Extent, AllocError>
-    ensures { IfOk result (λ e. IsExtent e (else_shape (home_at scene.entry)
-        (callees_within depth (home_at scene.entry)) no.now)) }
+fn of_else(known: Known<'_>, no: &Option<Boxed<BoundStat>>) -> Result<Extent, AllocError>
+    requires { IsKnown known }
+    ensures { IfOk result (λ e. Measures e known.entry.model.now (λ h callees.
+        (else_shape h callees no.now).size)) }
 {
     match no {
         None => Ok(plain(0)),
-        Some(stat) => of_stat(scene, depth, stat.get()),
+        Some(stat) => {
+            let all = of_stat(known, stat.get())?;
+            Ok(all)
+        }
     }
 }
 
-/// A statement whose calls are nested no deeper than this.
+// A statement.
 #[cycle(extents)]
 #[tactic(auto, unfolding(ooo_shapes::specs::Shapes::shape_of))]
-pub(crate) fn of_stat(
-    scene: Scene<'_>,
-    depth: usize,
-    stat: &BoundStat,
-) -> Result<Extent, AllocError>
-    ensures { IfOk result (λ e. IsExtent e
-        (shape_of (home_at scene.entry) (callees_within depth (home_at scene.entry)) stat.now)) }
+fn of_stat(known: Known<'_>, stat: &BoundStat) -> Result<Extent, AllocError>
+    requires { IsKnown known }
+    ensures { IfOk result (λ e. Measures e known.entry.model.now (λ h callees.
+        (shape_of h callees stat.now).size)) }
 {
     match stat {
-        BoundStat::Block(body) => of_stats(scene, depth, body.as_slice()),
-        BoundStat::Simple(x) => of_lined(scene, depth, x.get()),
-        BoundStat::If(_, _, yes, no) => {
-            let yes = of_stat(scene, depth, yes.get())?;
-            let both = then(yes, of_else(scene, depth, no)?)?;
-            let all = then(plain(1), both)?;
+        BoundStat::Block(body) => {
+            let all = of_stats(known, body.as_slice())?;
             Ok(all)
         }
-        BoundStat::While(_, _, body) => then(plain(1), of_stat(scene, depth, body.get())?),
-        BoundStat::Do(_, body, _) => then(of_stat(scene, depth, body.get())?, plain(1)),
+        BoundStat::Simple(x) => {
+            let all = of_lined(known, x.get())?;
+            Ok(all)
+        }
+        BoundStat::If(_, _, yes, no) => {
+            let yes = of_stat(known, yes.get())?;
+            let no = of_else(known, no)?;
+            let branches = then(yes, no)?;
+            let all = then(plain(1), branches)?;
+            Ok(all)
+        }
+        BoundStat::While(_, _, body) => {
+            let body = of_stat(known, body.get())?;
+            let turn = then(plain(1), body)?;
+            let all = then(plain(0), turn)?;
+            Ok(all)
+        }
+        BoundStat::Do(_, body, _) => {
+            let body = of_stat(known, body.get())?;
+            let all = then(body, plain(1))?;
+            Ok(all)
+        }
         BoundStat::For(_, begin, _, after, body) => {
-            let begin = of_lineds(scene, depth, begin.as_slice())?;
-            let lead = of_lead(scene, depth, after)?;
-            let body = of_stat(scene, depth, body.get())?;
+            let begin = of_lineds(known, begin.as_slice())?;
+            let lead = of_lead(known, after)?;
+            let body = of_stat(known, body.get())?;
             let turn = then(plain(1), body)?;
             let repeated = then(lead, turn)?;
             let all = then(begin, repeated)?;
@@ -223,19 +274,143 @@ pub(crate) fn of_stat(
     }
 }
 
-/// The statements of a body, whose calls are nested no deeper than this.
+// The statements of a body.
 #[cycle(extents)]
 #[tactic(auto, unfolding(ooo_shapes::specs::Shapes::shape_of))]
-pub(crate) fn of_stats(
-    scene: Scene<'_>,
-    depth: usize,
-    body: &[BoundStat],
-) -> Result<Extent, AllocError>
-    ensures { IfOk result (λ e. IsExtent e (shape_within depth (home_at scene.entry) body.now)) }
+fn of_stats(known: Known<'_>, body: &[BoundStat]) -> Result<Extent, AllocError>
+    requires { IsKnown known }
+    ensures { IfOk result (λ e. Measures e known.entry.model.now (λ h callees.
+        (body_shape h callees body.now).size)) }
 {
     let mut all = plain(0);
     'parts: for stat in body {
-        all = then(all, of_stat(scene, depth, stat)?)?;
+        let part = of_stat(known, stat)?;
+        all = then(all, part)?;
     }
     Ok(all)
+}
+
+// ---- where calls may be nested so deep
+
+/// The size of a statement without statements in it.
+pub(crate) fn lined_size(scene: Scene<'_>, depth: usize, x: &LinedSimple) -> Result<u64, AllocError>
+    requires { IsKnown scene.known }
+    ensures { IfOk result (λ n. n ≡ (lined_shape (home_at scene.entry)
+        (callees_within depth (home_at scene.entry)) x.now).size) }
+{
+    let extent = of_lined(scene.known, x)?;
+    let nodes = nodes_within(extent, depth)?;
+    Ok(nodes)
+}
+
+/// That of simple statements one after the other.
+pub(crate) fn lineds_size(
+    scene: Scene<'_>,
+    depth: usize,
+    xs: &[LinedSimple],
+) -> Result<u64, AllocError>
+    requires { IsKnown scene.known }
+    ensures { IfOk result (λ n. n ≡ (lined_shapes (home_at scene.entry)
+        (callees_within depth (home_at scene.entry)) xs.now).size) }
+{
+    let extent = of_lineds(scene.known, xs)?;
+    let nodes = nodes_within(extent, depth)?;
+    Ok(nodes)
+}
+
+/// That of the statement after `else`, if there is one.
+pub(crate) fn else_size(
+    scene: Scene<'_>,
+    depth: usize,
+    no: &Option<Boxed<BoundStat>>,
+) -> Result<u64, AllocError>
+    requires { IsKnown scene.known }
+    ensures { IfOk result (λ n. n ≡ (else_shape (home_at scene.entry)
+        (callees_within depth (home_at scene.entry)) no.now).size) }
+{
+    let extent = of_else(scene.known, no)?;
+    let nodes = nodes_within(extent, depth)?;
+    Ok(nodes)
+}
+
+/// That of a statement.
+pub(crate) fn stat_size(scene: Scene<'_>, depth: usize, stat: &BoundStat) -> Result<u64, AllocError>
+    requires { IsKnown scene.known }
+    ensures { IfOk result (λ n. n ≡ (shape_of (home_at scene.entry)
+        (callees_within depth (home_at scene.entry)) stat.now).size) }
+{
+    let extent = of_stat(scene.known, stat)?;
+    let nodes = nodes_within(extent, depth)?;
+    Ok(nodes)
+}
+
+/// That of the statements of a body.
+pub(crate) fn body_size(
+    scene: Scene<'_>,
+    depth: usize,
+    body: &[BoundStat],
+) -> Result<u64, AllocError>
+    requires { IsKnown scene.known }
+    ensures { IfOk result (λ n. n ≡ (shape_within depth (home_at scene.entry) body.now).size) }
+{
+    let extent = of_stats(scene.known, body)?;
+    let nodes = nodes_within(extent, depth)?;
+    Ok(nodes)
+}
+
+// ---- every function once
+
+// The extent of a call of a function but for its arguments, by those that are known so far.
+fn of_function(known: Known<'_>, function: &BoundFunction) -> Result<Extent, AllocError>
+    requires { IsKnown known }
+    ensures { IfOk result (λ e. IsExtentOf e known.entry.model.now function.now) }
+{
+    let body = of_stats(known, function.body.as_slice())?;
+    let own = call_slots(function)?;
+    let last = sum(body.nodes, 1)?;
+    let behind = sum(own, last)?;
+    let nodes = sum(1, behind)?;
+    Ok(Extent {
+        nodes,
+        depth: body.depth,
+    })
+}
+
+// Finds the extent of a call of a function, if there is the function.
+fn find_extent(model: &Bound, extents: &mut Items<Option<Extent>>, f: u32) -> Result<(), AllocError>
+    requires { AreExtents model.now extents.old }
+    ensures { OnOk result (AreExtents model.now extents.new) }
+{
+    let number = f as usize;
+    if number >= extents.len() {
+        return Ok(());
+    }
+    let known = Known {
+        model,
+        extents: extents.as_slice(),
+    };
+    match function_of(known, f) {
+        None => Ok(()),
+        Some(function) => {
+            let extent = of_function(known, function)?;
+            extents.set(number, Some(extent));
+            Ok(())
+        }
+    }
+}
+
+/// The extents of calls of functions, found in this order: those of called functions first.
+pub(crate) fn extents_of(
+    alloc: Global,
+    model: &Bound,
+    order: &[u32],
+) -> Result<Items<Option<Extent>>, AllocError>
+    ensures { IfOk result (λ extents. AreExtents model.now extents) }
+{
+    let unknown = vec![in alloc; None; model.functions.len()]?;
+    let mut extents = Items::from_vec(unknown);
+    'functions: for f in order {
+        find_extent(model, &mut extents, *f)?;
+    }
+    Ok(extents)
 }

@@ -56,7 +56,7 @@ pub(crate) fn index_slot(kind: Kind) -> u32
 pub(crate) fn channel_slot(scene: Scene<'_>, channel: u32) -> u32
     ensures { result ≡ channel_slot (home_at scene.entry) channel }
 {
-    value_slot(kind_of_channel(scene.model, channel))
+    value_slot(kind_of_channel(scene.known.model, channel))
 }
 
 /// A value is put into a target, whose index is evaluated then.
@@ -77,16 +77,16 @@ pub(crate) fn put_kind(
             Ok(NodeKind::Set(slot, converted(alloc, *kind, value)?))
         }
         BoundTarget::Variable(variable) => {
-            let value = converted(alloc, kind_of_variable(scene.model, *variable), value)?;
+            let value = converted(alloc, kind_of_variable(scene.known.model, *variable), value)?;
             Ok(NodeKind::Store(*variable, None, value))
         }
         BoundTarget::Element(variable, index) => {
             let index = lowered(alloc, t, index)?;
-            let value = converted(alloc, kind_of_variable(scene.model, *variable), value)?;
+            let value = converted(alloc, kind_of_variable(scene.known.model, *variable), value)?;
             Ok(NodeKind::Store(*variable, Some(index), value))
         }
         BoundTarget::Signal(channel) => {
-            let value = converted(alloc, kind_of_channel(scene.model, *channel), value)?;
+            let value = converted(alloc, kind_of_channel(scene.known.model, *channel), value)?;
             Ok(NodeKind::Write(*channel, value))
         }
     }
@@ -105,8 +105,8 @@ pub(crate) fn put_at_kind(
 {
     match into {
         BoundTarget::Element(variable, index) => {
-            let index = NodeExpr::Slot(index_slot(kind_in(scene.model, index)));
-            let value = converted(alloc, kind_of_variable(scene.model, *variable), value)?;
+            let index = NodeExpr::Slot(index_slot(kind_in(scene.known.model, index)));
+            let value = converted(alloc, kind_of_variable(scene.known.model, *variable), value)?;
             Ok(NodeKind::Store(*variable, Some(index), value))
         }
         _ => put_kind(alloc, scene, t, into, value, next),
@@ -124,7 +124,7 @@ pub(crate) fn aim_kind(
 {
     match into {
         BoundTarget::Element(_, index) => {
-            let slot = index_slot(kind_in(scene.model, index));
+            let slot = index_slot(kind_in(scene.known.model, index));
             Ok(NodeKind::Set(slot, lowered(alloc, t, index)?))
         }
         _ => Ok(NodeKind::Goto),
@@ -197,9 +197,9 @@ fn events_for(
     change: Change,
     fifo: u32,
 ) -> Result<Items<u32>, AllocError>
-    ensures { IfOk result (λ es. es ≡ events_of scene.entry.model.now change fifo) }
+    ensures { IfOk result (λ es. es ≡ events_of scene.entry.known.model.now change fifo) }
 {
-    let event = event_of(scene.model.events.as_slice(), change, fifo);
+    let event = event_of(scene.known.model.events.as_slice(), change, fifo);
     one_event(alloc, event)
 }
 
@@ -210,7 +210,7 @@ pub(crate) fn wait_for(
     change: Change,
     fifo: u32,
 ) -> Result<NodeKind, AllocError>
-    ensures { IfOk result (λ k. k ≡ wait_kind (events_of scene.entry.model.now change fifo)) }
+    ensures { IfOk result (λ k. k ≡ wait_kind (events_of scene.entry.known.model.now change fifo)) }
 {
     let events = events_for(alloc, scene, change, fifo)?;
     Ok(NodeKind::Wait(NodeWait {

@@ -9,10 +9,13 @@ mod extents;
 mod kinds;
 mod kinds_of_nodes;
 mod numbers;
+mod order;
 mod scene;
 mod simples;
 mod sizes;
+mod splitting;
 mod statements;
+mod tasks;
 mod widths;
 
 pub use designs::{GREATEST_SIZE, LowerError, lower};

@@ -1,6 +1,6 @@
-ghost use Rattle.std.specs.Prelude.{◌≡◌, ◌+◌, ◌≤◌, ◌↔◌, [], length, IfOk, IsTrue, OnOk};
+ghost use Rattle.std.specs.Prelude.{◌≡◌, ◌+◌, ◌≤◌, ◌++◌, ◌↔◌, [], length, IfOk, IsTrue, OnOk};
 ghost use Rattle.ooo_lower.specs.Weighing.{AreWeighed, IsLeft, IsWeightOf, Weighs, calls_size, else_size};
-ghost use Rattle.ooo_lower.specs.Weighing.{sizes_by, weight_by};
+ghost use Rattle.ooo_lower.specs.Weighing.{Spends, SpendsOwn, owed_calls, sizes_by, weight_by};
 ghost use Rattle.ooo_shapes.specs.Sizes.{after_size, body_size, code_size, processes_size, right_size};
 ghost use Rattle.ooo_shapes.specs.Sizes.{simple_size, simples_size, sizes_within, stat_size};
 
@@ -27,6 +27,13 @@ impl Weight {
             own: 0,
             calls: Items::new(alloc),
         }
+    }
+
+    /// The functions that are called, one for each call.
+    pub(crate) fn calls(&self) -> &[u32]
+        ensures { result.now ≡ self.now.calls }
+    {
+        self.calls.as_slice()
     }
 
     // So many items more.
@@ -178,8 +185,11 @@ fn weight_of(alloc: Global, body: &[BoundStat]) -> Result<Weight, AllocError>
     Ok(w)
 }
 
-// The bodies of functions.
-fn weights_of(alloc: Global, functions: &[BoundFunction]) -> Result<Items<Weight>, AllocError>
+/// The bodies of functions.
+pub(crate) fn weights_of(
+    alloc: Global,
+    functions: &[BoundFunction],
+) -> Result<Items<Weight>, AllocError>
     ensures { IfOk result (λ ws. AreWeighed ws functions.now) }
 {
     let mut all = Items::new(alloc);
@@ -190,44 +200,86 @@ fn weights_of(alloc: Global, functions: &[BoundFunction]) -> Result<Items<Weight
     Ok(all)
 }
 
-// What is left once the size of a body is taken, where calls are nested no deeper than this; nothing, where it is more.
-#[cycle(spend)]
-fn spend_weight(weights: &[Weight], depth: usize, w: &Weight, left: u64) -> Option<u64>
-    ensures { IsLeft (weight_by (sizes_by depth weights.now) w.now) left result }
+/// A call whose size is still to be taken off: of this function, whose own calls are nested no deeper than this.
+#[derive(Clone, Copy)]
+pub(crate) struct Owed {
+    function: u32,
+    depth: usize,
+}
+
+// Notes the calls of a body, whose own calls are nested no deeper than this.
+fn owe(owed: &mut Items<Owed>, depth: usize, calls: &[u32]) -> Result<(), AllocError>
+    ensures { OnOk result (owed.new ≡ owed.old ++ owed_calls depth calls.now) }
+{
+    'calls: for f in calls {
+        owed.push(Owed {
+            function: *f,
+            depth,
+        })?;
+    }
+    Ok(())
+}
+
+// What is left once the own size of a body is taken off; its calls are then owed.
+fn spend_own(
+    owed: &mut Items<Owed>,
+    depth: usize,
+    w: &Weight,
+    left: u64,
+) -> Result<Option<u64>, AllocError>
+    ensures { IfOk result (λ rest. SpendsOwn w.now depth left owed.old owed.new rest) }
 {
     match left.checked_sub(w.own) {
-        None => None,
-        Some(rest) => spend(weights, depth, w.calls.as_slice(), rest),
+        None => Ok(None),
+        Some(rest) => {
+            owe(owed, depth, w.calls.as_slice())?;
+            Ok(Some(rest))
+        }
     }
 }
 
-// The same of a function that is called, if there is it.
-#[cycle(spend)]
-fn spend_call(weights: &[Weight], depth: usize, f: u32, left: u64) -> Option<u64>
-    ensures { IsLeft (sizes_by depth weights.now f) left result }
+// The same of a call, if there is the function and calls may be nested so deep.
+fn spend_call(
+    weights: &[Weight],
+    owed: &mut Items<Owed>,
+    call: Owed,
+    left: u64,
+) -> Result<Option<u64>, AllocError>
+    ensures { IfOk result (λ rest. Spends weights.now call left owed.old owed.new rest) }
 {
-    if depth == 0 {
-        return Some(left);
+    if call.depth == 0 {
+        return Ok(Some(left));
     }
-    match at(weights, f as usize) {
-        None => Some(left),
-        Some(w) => spend_weight(weights, depth - 1, w, left),
+    match at(weights, call.function as usize) {
+        None => Ok(Some(left)),
+        Some(w) => {
+            let rest = spend_own(owed, call.depth - 1, w, left)?;
+            Ok(rest)
+        }
     }
 }
 
-// The same of calls one after the other.
-#[cycle(spend)]
-fn spend(weights: &[Weight], depth: usize, calls: &[u32], left: u64) -> Option<u64>
-    ensures { IsLeft (calls_size (sizes_by depth weights.now) calls.now) left result }
+// What is left once the size of a body is taken off, where calls are nested no deeper than this; nothing, where it is more.
+fn spend(
+    alloc: Global,
+    weights: &[Weight],
+    depth: usize,
+    w: &Weight,
+    left: u64,
+) -> Result<Option<u64>, AllocError>
+    ensures { IfOk result (λ rest. IsLeft (weight_by (sizes_by depth weights.now) w.now) left rest) }
 {
-    let mut rest = left;
-    'calls: for f in calls {
-        match spend_call(weights, depth, *f, rest) {
-            None => return None,
+    let mut owed = Items::new(alloc);
+    let Some(mut rest) = spend_own(&mut owed, depth, w, left)? else {
+        return Ok(None);
+    };
+    'calls: while let Some(call) = owed.pop() {
+        match spend_call(weights, &mut owed, call, rest)? {
+            None => return Ok(None),
             Some(less) => rest = less,
         }
     }
-    Some(rest)
+    Ok(Some(rest))
 }
 
 // The same of a process, which has one more than its body.
@@ -247,7 +299,7 @@ fn spend_process(
     if left == 0 {
         return Ok(None);
     }
-    let rest = spend_weight(weights, functions.len(), &w, left - 1);
+    let rest = spend(alloc, weights, functions.len(), &w, left - 1)?;
     Ok(rest)
 }
 
@@ -279,15 +331,19 @@ fn spend_processes(
 /// # Errors
 ///
 /// Only where memory runs out.
-pub(crate) fn is_within(alloc: Global, model: &Bound, limit: u64) -> Result<bool, AllocError>
+pub(crate) fn is_within(
+    alloc: Global,
+    model: &Bound,
+    weights: &[Weight],
+    limit: u64,
+) -> Result<bool, AllocError>
+    requires { AreWeighed weights.now model.now.functions }
     ensures { IfOk result (λ fits. IsTrue fits ↔ (code_size model.now ≤ limit)) }
 {
-    let functions = model.functions.as_slice();
-    let weights = weights_of(alloc, functions)?;
     let rest = spend_processes(
         alloc,
-        functions,
-        weights.as_slice(),
+        model.functions.as_slice(),
+        weights,
         model.processes.as_slice(),
         limit,
     )?;

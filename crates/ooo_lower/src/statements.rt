@@ -1,591 +1,496 @@
-ghost use Rattle.std.specs.Prelude.{◌≡◌, ◌+◌, [], ◌∷◌, ℕ, Some, length, IfOk, OnOk};
+ghost use Rattle.std.specs.Prelude.{◌≡◌, ◌+◌, [], ◌∷◌, Some, false, length, IfOk, MatchOption, OnOk};
 ghost use Rattle.ooo_code.specs.declared.node.NodeKind.TheVariants as kind;
-ghost use Rattle.ooo_lower.specs.Codes.{Emits, EmitsBefore, EmitsLead, Puts};
-ghost use Rattle.ooo_lower.specs.Heads.{EmitsHead, PutsBranch};
-ghost use Rattle.ooo_lower.specs.Extents.{IsLead, else_shape, for_shape};
+ghost use Rattle.ooo_bound.specs.declared.stat.BoundRight.TheVariants as bound_right;
+ghost use Rattle.ooo_bound.specs.declared.stat.BoundSimple.TheVariants as bound_simple;
+ghost use Rattle.ooo_lower.specs.Codes.{Emits, Puts};
+ghost use Rattle.ooo_lower.specs.Extents.{IsKnown};
 ghost use Rattle.ooo_lower.specs.Parts.{one_kind};
 ghost use Rattle.ooo_lower.specs.Scenes.{home_at};
+ghost use Rattle.ooo_lower.specs.Tasks.{EmitsAt, Takes, gives_call, is_call, leave_shape, one_node};
+ghost use Rattle.ooo_lower.specs.Tasks.{part_shape, pass_shape, test_shape, tested};
 ghost use Rattle.ooo_shapes.specs.Expressions.{lowered};
-ghost use Rattle.ooo_shapes.specs.Shapes.{again_at, after_shape, assign_shape, call_shape, callees_within, do_shape};
-ghost use Rattle.ooo_shapes.specs.Shapes.{if_shape, inside, jump_shape, lined_shape, lined_shapes, loop_shape};
-ghost use Rattle.ooo_shapes.specs.Shapes.{print_shape, return_kind, shape_of, shape_within, simple_shape, then};
-ghost use Rattle.ooo_shapes.specs.Shapes.{Callees, test_or_true};
-ghost use Rattle.ooo_shapes.specs.Simples.{Home, counted};
+ghost use Rattle.ooo_shapes.specs.Shapes.{Callees, assign_shape, body_shape, call_shape, lined_shape};
+ghost use Rattle.ooo_shapes.specs.Shapes.{print_shape, return_kind, shape_of, shape_within, simple_shape};
+ghost use Rattle.ooo_shapes.specs.Simples.{counted};
 
 use crate::calls::{frame_of, leave_kind, push_kinds, put_arguments, put_zeros};
 use crate::code::Code;
 use crate::expressions::{lowered, lowered_time};
-use crate::extents::{
-    Extent, call_slots, callee, given, of_else, of_lead, of_lined, of_lineds, of_stat, of_stats,
-};
+use crate::extents::{body_size, call_slots, callee, given};
 use crate::kinds_of_nodes::{lowered_wait, return_kind};
-use crate::numbers::{behind, less, narrow};
-use crate::scene::Scene;
-use crate::simples::{
-    Spot, begins, put_items, put_nb_read, put_nb_write, put_read, put_update, put_value, put_write,
-};
+use crate::numbers::{behind, narrow};
+use crate::simples::{Site, Spot, begins};
+use crate::splitting::{push, test_of};
+use crate::tasks::{Loop, Part, Task, Test};
 use ooo_bound::{
     BoundExpr, BoundFunction, BoundItem, BoundRight, BoundSimple, BoundStat, BoundTarget,
     LinedSimple,
 };
-use ooo_code::NodeKind;
+use ooo_code::{NodeExpr, NodeKind};
 use ooo_shapes::Around;
-use ooo_value::Value;
+use ooo_value::{Kind, Value};
 use sqlite_items::{Boxed, Items};
 use std::alloc::{AllocError, Global};
 
-// A print counts before it prints its items.
-fn emit_print(
-    alloc: Global,
-    code: &mut Code,
-    spot: Spot,
-    items: &[BoundItem],
-) -> Result<(), AllocError>
-    ensures { OnOk result
-        (Emits (print_shape spot.line items.now) spot.around spot.next code.old code.new) }
-{
-    let after = behind(code.at()?, 1)?;
-    let to = begins(items.len() as u64, after, spot.next);
-    code.put_counted(NodeKind::Goto, spot.line, to)?;
-    put_items(alloc, code, spot, items)?;
-    Ok(())
+// A call of a function: what its result is put into, the function's number, and the arguments.
+#[derive(Clone, Copy)]
+pub(crate) struct CallIn<'a> {
+    into: &'a BoundTarget,
+    function: u32,
+    args: &'a [BoundExpr],
 }
 
-// A statement of one node.
-fn one_kind(
-    alloc: Global,
-    scene: Scene<'_>,
-    t: Around,
-    simple: &BoundSimple,
-) -> Result<NodeKind, AllocError>
-    ensures { IfOk result (λ k. k ≡ one_kind (home_at scene.entry) t simple.now) }
+// The call that a statement is, if it is one.
+fn call_in<'a>(simple: &'a BoundSimple) -> Option<CallIn<'a>>
+    ensures { MatchOption result (is_call simple.now ≡ false) (λ c.
+        simple.now ≡ bound_simple.Assign c.into.now (bound_right.Call c.function c.args.now)) }
 {
     match simple {
-        BoundSimple::Notify(event, time) => {
-            let time = lowered_time(alloc, t, time)?;
-            Ok(NodeKind::Notify(*event, time))
-        }
-        BoundSimple::Cancel(event) => Ok(NodeKind::Cancel(*event)),
-        BoundSimple::Wait(wait) => {
-            let wait = lowered_wait(alloc, scene, t, wait)?;
-            Ok(NodeKind::Wait(wait))
-        }
-        BoundSimple::NextTrigger(wait) => {
-            let wait = lowered_wait(alloc, scene, t, wait)?;
-            Ok(NodeKind::Trigger(wait))
-        }
-        _ => Ok(NodeKind::Stop),
+        BoundSimple::Assign(into, right) => match right {
+            BoundRight::Call(function, args) => Some(CallIn {
+                into,
+                function: *function,
+                args: args.as_slice(),
+            }),
+            _ => None,
+        },
+        _ => None,
     }
 }
 
-// A statement of one node, as it stands.
-fn emit_one(
-    alloc: Global,
-    scene: Scene<'_>,
-    code: &mut Code,
-    spot: Spot,
-    simple: &BoundSimple,
-) -> Result<(), AllocError>
-    ensures { OnOk result
-        (Puts (counted (one_kind (home_at scene.entry) spot.around simple.now) spot.line
-        spot.next ∷ []) code.old code.new) }
-{
-    let kind = one_kind(alloc, scene, spot.around, simple)?;
-    code.put_counted(kind, spot.line, spot.next)
-}
-
-// A called function, written out.
-#[cycle(emits)]
-fn emit_found(
-    alloc: Global,
-    scene: Scene<'_>,
-    code: &mut Code,
-    depth: usize,
-    spot: Spot,
-    into: &BoundTarget,
-    function: &BoundFunction,
-    args: &[BoundExpr],
-) -> Result<(), AllocError>
-    ensures { OnOk result
-        (Emits (call_shape (home_at scene.entry) spot.line into.now args.now (Some (record {
-          function = function.now;
-          body = shape_within depth (home_at scene.entry) function.now.body;
-        })))
-        spot.around spot.next code.old code.new) }
-{
-    let free = code.free()?;
-    let goto_at = behind(code.at()?, 1)?;
-    let zeros = narrow(call_slots(function)?)?;
-    let given = narrow(given(function, args))?;
-    let args_at = behind(goto_at, zeros)?;
-    let body_at = behind(args_at, given)?;
-    let size = of_stats(scene, depth, function.body.as_slice())?;
-    let leave = behind(body_at, narrow(size.nodes)?)?;
-    let u = frame_of(function, free, leave)?;
-    code.put_counted(NodeKind::Goto, spot.line, goto_at)?;
-    push_kinds(code, function)?;
-    put_zeros(code, spot.line, free)?;
-    put_arguments(alloc, code, spot, u, function.params.as_slice(), args)?;
-    emit_stats(
-        alloc,
-        scene,
-        code,
-        depth,
-        u,
-        leave,
-        function.body.as_slice(),
-    )?;
-    let kind = leave_kind(alloc, scene, spot, into, function.result, free)?;
-    code.put_uncounted(kind, spot.line, spot.next)?;
-    Ok(())
-}
-
-// A call of a function.
-#[cycle(emits)]
-fn emit_call(
-    alloc: Global,
-    scene: Scene<'_>,
-    code: &mut Code,
-    depth: usize,
-    spot: Spot,
-    into: &BoundTarget,
-    f: u32,
-    args: &[BoundExpr],
-) -> Result<(), AllocError>
-    ensures { OnOk result (Emits (call_shape (home_at scene.entry) spot.line into.now args.now
-        (callees_within depth (home_at scene.entry) f)) spot.around spot.next code.old code.new) }
-{
-    let Some(function) = callee(scene, depth, f) else {
-        return Ok(());
-    };
-    emit_found(alloc, scene, code, depth - 1, spot, into, function, args)?;
-    Ok(())
-}
-
-// A value, or what a call gives, is put into a target.
-#[cycle(emits)]
-fn emit_assign(
-    alloc: Global,
-    scene: Scene<'_>,
-    code: &mut Code,
-    depth: usize,
-    spot: Spot,
-    into: &BoundTarget,
-    right: &BoundRight,
-) -> Result<(), AllocError>
-    ensures { OnOk result
-        (Emits (assign_shape (home_at scene.entry) (callees_within depth (home_at scene.entry))
-        spot.line into.now right.now) spot.around spot.next code.old code.new) }
-{
-    match right {
-        BoundRight::Value(e) => {
-            put_value(alloc, scene, code, spot, into, e)?;
-            Ok(())
-        }
-        BoundRight::Call(f, args) => {
-            emit_call(alloc, scene, code, depth, spot, into, *f, args.as_slice())?;
-            Ok(())
-        }
-        BoundRight::Read(fifo) => {
-            put_read(alloc, scene, code, spot, into, *fifo)?;
-            Ok(())
-        }
-        BoundRight::NbRead(fifo, given) => {
-            put_nb_read(alloc, scene, code, spot, into, *fifo, given)?;
-            Ok(())
-        }
-        BoundRight::NbWrite(fifo, e) => {
-            put_nb_write(alloc, scene, code, spot, into, *fifo, e)?;
-            Ok(())
-        }
-    }
-}
-
-// A statement without statements in it.
-#[cycle(emits)]
-fn emit_lined(
-    alloc: Global,
-    scene: Scene<'_>,
-    code: &mut Code,
-    depth: usize,
-    around: Around,
-    next: u32,
-    x: &LinedSimple,
-) -> Result<(), AllocError>
-    ensures { OnOk result
-        (Emits (lined_shape (home_at scene.entry) (callees_within depth (home_at scene.entry))
-        x.now) around next code.old code.new) }
-{
-    let spot = Spot {
-        around,
-        line: x.line,
-        next,
-    };
-    match &x.simple {
-        BoundSimple::Assign(into, right) => {
-            emit_assign(alloc, scene, code, depth, spot, into, right)?;
-            Ok(())
-        }
-        BoundSimple::Update(into, op, e) => {
-            put_update(alloc, scene, code, spot, into, *op, e)?;
-            Ok(())
-        }
-        BoundSimple::Write(fifo, e) => {
-            put_write(alloc, scene, code, spot, *fifo, e)?;
-            Ok(())
-        }
-        BoundSimple::Print(items) => {
-            emit_print(alloc, code, spot, items.as_slice())?;
-            Ok(())
-        }
-        simple => {
-            emit_one(alloc, scene, code, spot, simple)?;
-            Ok(())
-        }
-    }
-}
-
-// Simple statements one after the other.
-#[cycle(emits)]
-fn emit_lineds(
-    alloc: Global,
-    scene: Scene<'_>,
-    code: &mut Code,
-    depth: usize,
-    around: Around,
-    next: u32,
-    xs: &[LinedSimple],
-) -> Result<(), AllocError>
-    ensures { OnOk result
-        (Emits (lined_shapes (home_at scene.entry) (callees_within depth (home_at scene.entry))
-        xs.now) around next code.old code.new) }
-{
-    let mut left = of_lineds(scene, depth, xs)?.nodes;
-    'parts: for x in xs {
-        let size = of_lined(scene, depth, x)?.nodes;
-        left = less(left, size)?;
-        let after = behind(code.at()?, narrow(size)?)?;
-        let to = begins(left, after, next);
-        emit_lined(alloc, scene, code, depth, around, to, x)?;
-    }
-    Ok(())
-}
-
-// What follows each turn of a loop, and the way past it.
-#[cycle(emits)]
-fn emit_lead(
-    alloc: Global,
-    scene: Scene<'_>,
-    code: &mut Code,
-    depth: usize,
-    spot: Spot,
-    after: &Option<Boxed<LinedSimple>>,
-) -> Result<(), AllocError>
-    ensures { OnOk result
-        (EmitsLead (after_shape (home_at scene.entry) (callees_within depth (home_at scene.entry))
-        after.now) spot.around spot.line code.old code.new) }
-{
-    match after {
-        None => Ok(()),
-        Some(x) => {
-            let x = x.get();
-            let step_at = behind(code.at()?, 1)?;
-            let size = of_lined(scene, depth, x)?.nodes;
-            let test_at = behind(step_at, narrow(size)?)?;
-            code.put_uncounted(NodeKind::Goto, spot.line, test_at)?;
-            emit_lined(alloc, scene, code, depth, spot.around, test_at, x)?;
-            Ok(())
-        }
-    }
-}
-
-// Around a loop's body.
-fn inside(t: Around, break_to: u32, continue_to: u32) -> Around
-    ensures { result ≡ inside t break_to continue_to }
-{
-    Around {
-        break_to,
-        continue_to,
-        ..t
-    }
-}
-
-// Where a turn goes on behind the body, where what stands before the test is so large.
-fn again_at(at: u32, after: &Option<Boxed<LinedSimple>>, lead: Extent) -> Result<u32, AllocError>
-    ensures { (callees : Callees) (home : Home) → IsLead lead (after_shape home callees after.now) →
-        IfOk result (λ n. n ≡ again_at (after_shape home callees after.now) at) }
-{
-    match after {
-        None => Ok(at),
-        Some(_) => {
-            let size = less(lead.nodes, 1)?;
-            let test_at = behind(at, narrow(lead.nodes)?)?;
-            Ok(begins(size, behind(at, 1)?, test_at))
-        }
-    }
-}
-
-// What stands before the body of a loop: what follows each turn, the way past it, and the test. Answers where a turn goes
-// on behind the body.
-#[cycle(emits)]
-fn emit_head(
-    alloc: Global,
-    scene: Scene<'_>,
-    code: &mut Code,
-    depth: usize,
-    spot: Spot,
-    test: &BoundExpr,
-    after: &Option<Boxed<LinedSimple>>,
-    body: &BoundStat,
-) -> Result<u32, AllocError>
-    ensures { IfOk result (λ again. EmitsHead
-        (after_shape (home_at scene.entry) (callees_within depth (home_at scene.entry)) after.now)
-        (shape_of (home_at scene.entry) (callees_within depth (home_at scene.entry)) body.now)
-        test.now spot again code.old code.new) }
-{
-    let at = code.at()?;
-    let lead = of_lead(scene, depth, after)?;
-    let again = again_at(at, after, lead)?;
-    let test_at = behind(at, narrow(lead.nodes)?)?;
-    let body_at = behind(test_at, 1)?;
-    let size = of_stat(scene, depth, body)?.nodes;
-    let to = begins(size, body_at, again);
-    emit_lead(alloc, scene, code, depth, spot, after)?;
-    let value = lowered(alloc, spot.around, test)?;
-    code.put_counted(NodeKind::Test(value, spot.next), spot.line, to)?;
-    Ok(again)
-}
-
-// The same of a loop that may have no test.
-#[cycle(emits)]
-fn emit_for_head(
-    alloc: Global,
-    scene: Scene<'_>,
-    code: &mut Code,
-    depth: usize,
-    spot: Spot,
-    test: &Option<Boxed<BoundExpr>>,
-    after: &Option<Boxed<LinedSimple>>,
-    body: &BoundStat,
-) -> Result<u32, AllocError>
-    ensures { IfOk result (λ again. EmitsHead
-        (after_shape (home_at scene.entry) (callees_within depth (home_at scene.entry)) after.now)
-        (shape_of (home_at scene.entry) (callees_within depth (home_at scene.entry)) body.now)
-        (test_or_true test.now) spot again code.old code.new) }
+// The value of a test.
+fn tested(alloc: Global, t: Around, test: Test<'_>) -> Result<NodeExpr, AllocError>
+    ensures { IfOk result (λ v. v ≡ lowered t (tested test.entry)) }
 {
     match test {
-        None => {
+        Test::Of(test) => lowered(alloc, t, test),
+        Test::Always => {
             let always = BoundExpr::Constant(Value::Bool(true));
-            emit_head(alloc, scene, code, depth, spot, &always, after, body)
+            lowered(alloc, t, &always)
         }
-        Some(test) => emit_head(alloc, scene, code, depth, spot, test.get(), after, body),
     }
 }
 
-// What a `for` begins with.
-#[cycle(emits)]
-fn emit_begin(
-    alloc: Global,
-    scene: Scene<'_>,
-    code: &mut Code,
-    depth: usize,
-    around: Around,
-    begin: &[LinedSimple],
-) -> Result<(), AllocError>
-    ensures { OnOk result (EmitsBefore (lined_shapes (home_at scene.entry)
-        (callees_within depth (home_at scene.entry)) begin.now) around code.old code.new) }
-{
-    let size = of_lineds(scene, depth, begin)?.nodes;
-    let loop_at = behind(code.at()?, narrow(size)?)?;
-    emit_lineds(alloc, scene, code, depth, around, loop_at, begin)?;
-    Ok(())
+impl<'a> Site<'a> {
+    // A print counts before it prints its items.
+    fn emit_print(self, code: &mut Code, items: &[BoundItem]) -> Result<(), AllocError>
+        ensures { OnOk result
+            (EmitsAt self.entry.spot (print_shape self.entry.spot.line items.now)
+            code.old code.new) }
+    {
+        let after = behind(code.at()?, 1)?;
+        let to = begins(items.len() as u64, after, self.spot.next);
+        code.put_counted(NodeKind::Goto, self.spot.line, to)?;
+        self.put_items(code, items)?;
+        Ok(())
+    }
+
+    // A statement of one node.
+    fn one_kind(self, simple: &BoundSimple) -> Result<NodeKind, AllocError>
+        ensures { IfOk result (λ k.
+            k ≡ one_kind (home_at self.entry.scene) self.entry.spot.around simple.now) }
+    {
+        match simple {
+            BoundSimple::Notify(event, time) => {
+                let time = lowered_time(self.alloc, self.spot.around, time)?;
+                Ok(NodeKind::Notify(*event, time))
+            }
+            BoundSimple::Cancel(event) => Ok(NodeKind::Cancel(*event)),
+            BoundSimple::Wait(wait) => {
+                let wait = lowered_wait(self.alloc, self.scene, self.spot.around, wait)?;
+                Ok(NodeKind::Wait(wait))
+            }
+            BoundSimple::NextTrigger(wait) => {
+                let wait = lowered_wait(self.alloc, self.scene, self.spot.around, wait)?;
+                Ok(NodeKind::Trigger(wait))
+            }
+            _ => Ok(NodeKind::Stop),
+        }
+    }
+
+    // A statement of one node, as it stands.
+    fn emit_one(self, code: &mut Code, simple: &BoundSimple) -> Result<(), AllocError>
+        ensures { OnOk result (Puts (counted
+            (one_kind (home_at self.entry.scene) self.entry.spot.around simple.now)
+            self.entry.spot.line self.entry.spot.next ∷ []) code.old code.new) }
+    {
+        let kind = self.one_kind(simple)?;
+        code.put_counted(kind, self.spot.line, self.spot.next)
+    }
+
+    // A test, which leads to one place where its value is false, and to another one where it is true.
+    fn put_test(self, code: &mut Code, test: Test<'_>, no: u32, yes: u32) -> Result<(), AllocError>
+        ensures { OnOk result
+            (EmitsAt self.entry.spot (test_shape self.entry.spot.line (tested test.entry) no yes)
+            code.old code.new) }
+    {
+        let value = tested(self.alloc, self.spot.around, test)?;
+        code.put_counted(NodeKind::Test(value, no), self.spot.line, yes)?;
+        Ok(())
+    }
+
+    // A value that isn't what a call gives is put into a target.
+    fn emit_right(
+        self,
+        code: &mut Code,
+        into: &BoundTarget,
+        right: &BoundRight,
+    ) -> Result<(), AllocError>
+        requires { gives_call right.now ≡ false }
+        ensures { (callees : Callees) → OnOk result (EmitsAt self.entry.spot
+            (assign_shape (home_at self.entry.scene) callees self.entry.spot.line into.now
+            right.now) code.old code.new) }
+    {
+        match right {
+            BoundRight::Value(e) => {
+                self.put_value(code, into, e)?;
+                Ok(())
+            }
+            BoundRight::Call(_, _) => Ok(()),
+            BoundRight::Read(fifo) => {
+                self.put_read(code, into, *fifo)?;
+                Ok(())
+            }
+            BoundRight::NbRead(fifo, given) => {
+                self.put_nb_read(code, into, *fifo, given)?;
+                Ok(())
+            }
+            BoundRight::NbWrite(fifo, e) => {
+                self.put_nb_write(code, into, *fifo, e)?;
+                Ok(())
+            }
+        }
+    }
+
+    // A statement without statements in it that calls no function.
+    fn emit_simple(self, code: &mut Code, simple: &BoundSimple) -> Result<(), AllocError>
+        requires { is_call simple.now ≡ false }
+        ensures { (callees : Callees) → OnOk result (EmitsAt self.entry.spot
+            (simple_shape (home_at self.entry.scene) callees self.entry.spot.line simple.now)
+            code.old code.new) }
+    {
+        match simple {
+            BoundSimple::Assign(into, right) => {
+                self.emit_right(code, into, right)?;
+                Ok(())
+            }
+            BoundSimple::Update(into, op, e) => {
+                self.put_update(code, into, *op, e)?;
+                Ok(())
+            }
+            BoundSimple::Write(fifo, e) => {
+                self.put_write(code, *fifo, e)?;
+                Ok(())
+            }
+            BoundSimple::Print(items) => {
+                self.emit_print(code, items.as_slice())?;
+                Ok(())
+            }
+            simple => {
+                self.emit_one(code, simple)?;
+                Ok(())
+            }
+        }
+    }
+
+    // What stands before the body of a called function; the body and the way of the result are put next.
+    fn begin_call(
+        self,
+        code: &mut Code,
+        tasks: &mut Items<Task<'a>>,
+        call: CallIn<'a>,
+        function: &'a BoundFunction,
+    ) -> Result<(), AllocError>
+        requires { IsKnown self.scene.known }
+        ensures { OnOk result (Takes self.entry (λ h callees.
+            call_shape h self.entry.spot.line call.entry.into.now call.entry.args.now
+            (Some (record {
+              function = function.now;
+              body = body_shape h callees function.now.body;
+            }))) tasks.old tasks.new code.old code.new) }
+    {
+        let Site { alloc, scene, spot } = self;
+        let CallIn { into, args, .. } = call;
+        let body = function.body.as_slice();
+        let free = code.free()?;
+        let goto_at = behind(code.at()?, 1)?;
+        let zeros = narrow(call_slots(function)?)?;
+        let given = narrow(given(function, args))?;
+        let args_at = behind(goto_at, zeros)?;
+        let body_at = behind(args_at, given)?;
+        let size = body_size(scene, spot.depth, body)?;
+        let leave = behind(body_at, narrow(size)?)?;
+        let u = frame_of(function, free, leave)?;
+        code.put_counted(NodeKind::Goto, spot.line, goto_at)?;
+        push_kinds(code, function)?;
+        put_zeros(code, spot.line, free)?;
+        put_arguments(alloc, code, spot, u, function.params.as_slice(), args)?;
+        push(tasks, Part::Leave(into, function.result, free), spot)?;
+        let inner = Spot {
+            around: u,
+            next: leave,
+            ..spot
+        };
+        push(tasks, Part::Body(body), inner)?;
+        Ok(())
+    }
+
+    // A call of a function.
+    fn take_call(
+        self,
+        code: &mut Code,
+        tasks: &mut Items<Task<'a>>,
+        call: CallIn<'a>,
+    ) -> Result<(), AllocError>
+        requires { IsKnown self.scene.known }
+        ensures { OnOk result (Takes self.entry (λ h callees.
+            call_shape h self.entry.spot.line call.entry.into.now call.entry.args.now
+            (callees call.entry.function)) tasks.old tasks.new code.old code.new) }
+    {
+        match callee(self.scene, self.spot.depth, call.function) {
+            None => Ok(()),
+            Some(function) => {
+                let spot = Spot {
+                    depth: self.spot.depth - 1,
+                    ..self.spot
+                };
+                let inner = Site { spot, ..self };
+                inner.begin_call(code, tasks, call, function)?;
+                Ok(())
+            }
+        }
+    }
+
+    // A statement without statements in it.
+    fn take_simple(
+        self,
+        code: &mut Code,
+        tasks: &mut Items<Task<'a>>,
+        x: &'a LinedSimple,
+    ) -> Result<(), AllocError>
+        requires { IsKnown self.scene.known }
+        ensures { OnOk result (Takes self.entry (λ h callees. lined_shape h callees x.now)
+            tasks.old tasks.new code.old code.new) }
+    {
+        let spot = Spot {
+            line: x.line,
+            ..self.spot
+        };
+        let lined = Site { spot, ..self };
+        match call_in(&x.simple) {
+            None => {
+                lined.emit_simple(code, &x.simple)?;
+                Ok(())
+            }
+            Some(call) => {
+                lined.take_call(code, tasks, call)?;
+                Ok(())
+            }
+        }
+    }
+
+    // The way past what follows each turn of a loop.
+    fn put_pass(self, code: &mut Code) -> Result<(), AllocError>
+        ensures { OnOk result
+            (EmitsAt self.entry.spot (pass_shape self.entry.spot.line) code.old code.new) }
+    {
+        code.put_uncounted(NodeKind::Goto, self.spot.line, self.spot.next)?;
+        Ok(())
+    }
+
+    // The way of what a call gives.
+    fn put_leave(
+        self,
+        code: &mut Code,
+        into: &BoundTarget,
+        gives: Option<Kind>,
+        free: u32,
+    ) -> Result<(), AllocError>
+        ensures { OnOk result (EmitsAt self.entry.spot
+            (leave_shape (home_at self.entry.scene) self.entry.spot.line into.now gives free)
+            code.old code.new) }
+    {
+        let kind = leave_kind(self.alloc, self.scene, self.spot, into, gives, free)?;
+        code.put_uncounted(kind, self.spot.line, self.spot.next)?;
+        Ok(())
+    }
+
+    // A jump out of a loop or its turn.
+    fn put_jump(self, code: &mut Code, line: u32, to: u32) -> Result<(), AllocError>
+        ensures { OnOk result
+            (EmitsAt self.entry.spot (one_node (counted kind.Goto line to)) code.old code.new) }
+    {
+        code.put_counted(NodeKind::Goto, line, to)?;
+        Ok(())
+    }
+
+    // A `return`.
+    fn put_return(
+        self,
+        code: &mut Code,
+        line: u32,
+        value: &Option<Boxed<BoundExpr>>,
+    ) -> Result<(), AllocError>
+        ensures { OnOk result (EmitsAt self.entry.spot
+            (one_node (counted (return_kind self.entry.spot.around value.now) line
+            self.entry.spot.around.return_to)) code.old code.new) }
+    {
+        let kind = return_kind(self.alloc, self.spot.around, value)?;
+        code.put_counted(kind, line, self.spot.around.return_to)?;
+        Ok(())
+    }
+
+    // A statement.
+    fn take_stat(
+        self,
+        code: &mut Code,
+        tasks: &mut Items<Task<'a>>,
+        stat: &'a BoundStat,
+    ) -> Result<(), AllocError>
+        requires { IsKnown self.scene.known }
+        ensures { OnOk result (Takes self.entry (λ h callees. shape_of h callees stat.now)
+            tasks.old tasks.new code.old code.new) }
+    {
+        match stat {
+            BoundStat::Block(body) => {
+                let body = body.as_slice();
+                push(tasks, Part::Body(body), self.spot)?;
+                Ok(())
+            }
+            BoundStat::Simple(x) => {
+                let x = x.get();
+                push(tasks, Part::Simple(x), self.spot)?;
+                Ok(())
+            }
+            BoundStat::Break(line) => {
+                self.put_jump(code, *line, self.spot.around.break_to)?;
+                Ok(())
+            }
+            BoundStat::Continue(line) => {
+                self.put_jump(code, *line, self.spot.around.continue_to)?;
+                Ok(())
+            }
+            BoundStat::Return(line, value) => {
+                self.put_return(code, *line, value)?;
+                Ok(())
+            }
+            BoundStat::If(line, test, yes, no) => {
+                let at = code.at()?;
+                let spot = Spot {
+                    line: *line,
+                    ..self.spot
+                };
+                let test = test.get();
+                let yes = yes.get();
+                Site { spot, ..self }.split_if(tasks, at, test, yes, no)?;
+                Ok(())
+            }
+            BoundStat::While(line, test, body) => {
+                let at = code.at()?;
+                let spot = Spot {
+                    line: *line,
+                    ..self.spot
+                };
+                let test = test.get();
+                let body = body.get();
+                Site { spot, ..self }.split_plain_loop(tasks, at, Test::Of(test), body)?;
+                Ok(())
+            }
+            BoundStat::Do(line, body, test) => {
+                let at = code.at()?;
+                let spot = Spot {
+                    line: *line,
+                    ..self.spot
+                };
+                let body = body.get();
+                let test = test.get();
+                Site { spot, ..self }.split_do(tasks, at, body, test)?;
+                Ok(())
+            }
+            BoundStat::For(line, begin, test, after, body) => {
+                let at = code.at()?;
+                let spot = Spot {
+                    line: *line,
+                    ..self.spot
+                };
+                let begin = begin.as_slice();
+                let test = test_of(test);
+                let body = body.get();
+                let looped = Loop { test, after, body };
+                Site { spot, ..self }.split_for(tasks, at, begin, looped)?;
+                Ok(())
+            }
+        }
+    }
+
+    // Puts a part, or what stands first in it; the rest of it is put next.
+    fn take(
+        self,
+        code: &mut Code,
+        tasks: &mut Items<Task<'a>>,
+        part: Part<'a>,
+    ) -> Result<(), AllocError>
+        requires { IsKnown self.scene.known }
+        ensures { OnOk result (Takes self.entry (λ h callees.
+            part_shape h callees self.entry.spot part.entry)
+            tasks.old tasks.new code.old code.new) }
+    {
+        match part {
+            Part::Body(body) => {
+                let at = code.at()?;
+                self.split_body(tasks, at, body)?;
+                Ok(())
+            }
+            Part::Stat(stat) => {
+                self.take_stat(code, tasks, stat)?;
+                Ok(())
+            }
+            Part::Simples(xs) => {
+                let at = code.at()?;
+                self.split_simples(tasks, at, xs)?;
+                Ok(())
+            }
+            Part::Simple(x) => {
+                self.take_simple(code, tasks, x)?;
+                Ok(())
+            }
+            Part::Pass => {
+                self.put_pass(code)?;
+                Ok(())
+            }
+            Part::Test(test, no, yes) => {
+                self.put_test(code, test, no, yes)?;
+                Ok(())
+            }
+            Part::Leave(into, result, free) => {
+                self.put_leave(code, into, result, free)?;
+                Ok(())
+            }
+        }
+    }
 }
 
-// The test of an `if`.
-fn put_branch(
-    alloc: Global,
-    scene: Scene<'_>,
+/// The nodes of the statements of a body.
+pub(crate) fn emit_stats<'a>(
+    site: Site<'a>,
     code: &mut Code,
-    depth: usize,
-    spot: Spot,
-    test: &BoundExpr,
-    yes: &BoundStat,
-    no: &Option<Boxed<BoundStat>>,
+    body: &'a [BoundStat],
 ) -> Result<(), AllocError>
-    ensures { OnOk result (PutsBranch
-        (shape_of (home_at scene.entry) (callees_within depth (home_at scene.entry)) yes.now)
-        (else_shape (home_at scene.entry) (callees_within depth (home_at scene.entry)) no.now)
-        test.now spot code.old code.new) }
-{
-    let yes_at = behind(code.at()?, 1)?;
-    let yes_size = of_stat(scene, depth, yes)?.nodes;
-    let no_at = behind(yes_at, narrow(yes_size)?)?;
-    let no_size = of_else(scene, depth, no)?.nodes;
-    let yes_to = begins(yes_size, yes_at, spot.next);
-    let no_to = begins(no_size, no_at, spot.next);
-    let value = lowered(alloc, spot.around, test)?;
-    code.put_counted(NodeKind::Test(value, no_to), spot.line, yes_to)?;
-    Ok(())
-}
-
-// Where the test of a loop that begins with its body stands.
-fn test_behind(
-    scene: Scene<'_>,
-    code: &Code,
-    depth: usize,
-    body: &BoundStat,
-) -> Result<u32, AllocError>
-    ensures { IfOk result (λ n. n ≡ length code.now.nodes
-        + (shape_of (home_at scene.entry)
-        (callees_within depth (home_at scene.entry)) body.now).size) }
-{
-    let size = of_stat(scene, depth, body)?.nodes;
-    behind(code.at()?, narrow(size)?)
-}
-
-// The test of a loop that began at a place.
-fn put_test(
-    alloc: Global,
-    code: &mut Code,
-    spot: Spot,
-    test: &BoundExpr,
-    start: u32,
-) -> Result<(), AllocError>
-    ensures { OnOk result
-        (Puts (counted (kind.Test (lowered spot.around test.now) spot.next) spot.line start ∷ [])
+    requires { IsKnown site.scene.known }
+    ensures { OnOk result (EmitsAt site.entry.spot
+        (shape_within site.entry.spot.depth (home_at site.entry.scene) body.now)
         code.old code.new) }
 {
-    let value = lowered(alloc, spot.around, test)?;
-    code.put_counted(NodeKind::Test(value, spot.next), spot.line, start)
-}
-
-// The statement after `else`, if there is one.
-#[cycle(emits)]
-fn emit_else(
-    alloc: Global,
-    scene: Scene<'_>,
-    code: &mut Code,
-    depth: usize,
-    around: Around,
-    next: u32,
-    no: &Option<Boxed<BoundStat>>,
-) -> Result<(), AllocError>
-    ensures { OnOk result
-        (Emits (else_shape (home_at scene.entry) (callees_within depth (home_at scene.entry))
-        no.now) around next code.old code.new) }
-{
-    match no {
-        None => Ok(()),
-        Some(stat) => {
-            emit_stat(alloc, scene, code, depth, around, next, stat.get())?;
-            Ok(())
+    let mut tasks = Items::new(site.alloc);
+    push(&mut tasks, Part::Body(body), site.spot)?;
+    'steps: for _ in 0..u64::MAX {
+        match tasks.pop() {
+            None => return Ok(()),
+            Some(task) => {
+                let spot = task.spot;
+                Site { spot, ..site }.take(code, &mut tasks, task.part)?
+            }
         }
     }
-}
-
-// A `return`.
-fn emit_return(
-    alloc: Global,
-    code: &mut Code,
-    spot: Spot,
-    value: &Option<Boxed<BoundExpr>>,
-) -> Result<(), AllocError>
-    ensures { OnOk result
-        (Puts (counted (return_kind spot.around value.now) spot.line spot.around.return_to ∷ [])
-        code.old code.new) }
-{
-    let kind = return_kind(alloc, spot.around, value)?;
-    code.put_counted(kind, spot.line, spot.around.return_to)
-}
-
-/// The nodes of a statement, whose calls are nested no deeper than this.
-#[cycle(emits)]
-#[tactic(auto, unfolding(ooo_shapes::specs::Shapes::shape_of))]
-fn emit_stat(
-    alloc: Global,
-    scene: Scene<'_>,
-    code: &mut Code,
-    depth: usize,
-    around: Around,
-    next: u32,
-    stat: &BoundStat,
-) -> Result<(), AllocError>
-    ensures { OnOk result
-        (Emits (shape_of (home_at scene.entry) (callees_within depth (home_at scene.entry))
-        stat.now) around next code.old code.new) }
-{
-    match stat {
-        BoundStat::Block(body) => {
-            emit_stats(alloc, scene, code, depth, around, next, body.as_slice())?;
-            Ok(())
-        }
-        BoundStat::Simple(x) => {
-            let x = x.get();
-            emit_lined(alloc, scene, code, depth, around, next, x)
-        }
-        BoundStat::If(line, test, yes, no) => {
-            let test = test.get();
-            let spot = Spot::new(around, *line, next);
-            put_branch(alloc, scene, code, depth, spot, test, yes.get(), no)?;
-            emit_stat(alloc, scene, code, depth, around, next, yes.get())?;
-            emit_else(alloc, scene, code, depth, around, next, no)?;
-            Ok(())
-        }
-        BoundStat::While(line, test, body) => {
-            let test = test.get();
-            let spot = Spot::new(around, *line, next);
-            let again = emit_head(alloc, scene, code, depth, spot, test, &None, body.get())?;
-            let t = inside(around, next, again);
-            emit_stat(alloc, scene, code, depth, t, again, body.get())?;
-            Ok(())
-        }
-        BoundStat::Do(line, body, test) => {
-            let test = test.get();
-            let start = code.at()?;
-            let test_at = test_behind(scene, code, depth, body.get())?;
-            let t = inside(around, next, test_at);
-            emit_stat(alloc, scene, code, depth, t, test_at, body.get())?;
-            put_test(alloc, code, Spot::new(around, *line, next), test, start)?;
-            Ok(())
-        }
-        BoundStat::For(line, begin, test, after, body) => {
-            let spot = Spot::new(around, *line, next);
-            emit_begin(alloc, scene, code, depth, around, begin.as_slice())?;
-            let again = emit_for_head(alloc, scene, code, depth, spot, test, after, body.get())?;
-            let t = inside(around, next, again);
-            emit_stat(alloc, scene, code, depth, t, again, body.get())?;
-            Ok(())
-        }
-        BoundStat::Break(line) => code.put_counted(NodeKind::Goto, *line, around.break_to),
-        BoundStat::Continue(line) => code.put_counted(NodeKind::Goto, *line, around.continue_to),
-        BoundStat::Return(line, value) => {
-            let spot = Spot::new(around, *line, next);
-            emit_return(alloc, code, spot, value)
-        }
-    }
-}
-
-/// The nodes of the statements of a body, whose calls are nested no deeper than this.
-#[cycle(emits)]
-pub(crate) fn emit_stats(
-    alloc: Global,
-    scene: Scene<'_>,
-    code: &mut Code,
-    depth: usize,
-    around: Around,
-    next: u32,
-    body: &[BoundStat],
-) -> Result<(), AllocError>
-    ensures { OnOk result
-        (Emits (shape_within depth (home_at scene.entry) body.now) around next code.old code.new) }
-{
-    let mut left = of_stats(scene, depth, body)?.nodes;
-    'parts: for stat in body {
-        let size = of_stat(scene, depth, stat)?.nodes;
-        left = less(left, size)?;
-        let after = behind(code.at()?, narrow(size)?)?;
-        let to = begins(left, after, next);
-        emit_stat(alloc, scene, code, depth, around, to, stat)?;
-    }
-    Ok(())
+    Err(AllocError)
 }

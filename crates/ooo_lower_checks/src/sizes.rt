@@ -92,3 +92,52 @@ fn a_tree_of_calls(rt: HostRuntime) -> Result<(), Fail> {
     assert_eq!(rt; nodes(alloc, &model), Err(LowerError::CodeTooLarge));
     Ok(())
 }
+
+// A body in so many blocks, one in the other.
+fn in_blocks(
+    alloc: Global,
+    count: u32,
+    body: Items<BoundStat>,
+) -> Result<Items<BoundStat>, AllocError> {
+    let mut whole = body;
+    for _ in 0..count {
+        let mut outer = Items::new(alloc);
+        outer.push(BoundStat::Block(whole))?;
+        whole = outer;
+    }
+    Ok(whole)
+}
+
+// Functions up to this number, of which the first does nothing, and each other one calls the one before it, in so many
+// blocks; and a thread that calls the last one.
+fn chain(alloc: Global, last: u32, blocks: u32) -> Result<Bound, AllocError> {
+    let mut functions = Items::new(alloc);
+    functions.push(function(alloc, Items::new(alloc)))?;
+    for before in 0..last {
+        let body = in_blocks(alloc, blocks, calls(alloc, 1, before)?)?;
+        functions.push(function(alloc, body))?;
+    }
+    one_thread(alloc, calls(alloc, 1, last)?, functions)
+}
+
+// Each call has two nodes, and the process its end.
+#[test]
+fn chains_of_calls(rt: HostRuntime) -> Result<(), Fail> {
+    let alloc = rt.alloc();
+    let short = chain(alloc, 2, 2)?;
+    assert_eq!(rt; nodes(alloc, &short), Ok(7));
+    let in_blocks = chain(alloc, 104, 60)?;
+    assert_eq!(rt; nodes(alloc, &in_blocks), Ok(211));
+    Ok(())
+}
+
+// The recursion of the program goes by the nesting of blocks, and not by the length of a chain.
+#[test]
+fn long_chains_of_calls(rt: HostRuntime) -> Result<(), Fail> {
+    let alloc = rt.alloc();
+    let plain = chain(alloc, 3_999, 0)?;
+    assert_eq!(rt; nodes(alloc, &plain), Ok(8_001));
+    let in_blocks = chain(alloc, 499, 60)?;
+    assert_eq!(rt; nodes(alloc, &in_blocks), Ok(1_001));
+    Ok(())
+}

@@ -1,20 +1,102 @@
-use Rattle.std.proofs.Common.{◌+◌, ◌≤◌, sym, subst}
-use Rattle.ooo_lower.proofs.Shaped.{shape_Block}
-use Rattle.ooo_lower.proofs.Weights.{call_falls, depth_of, lighter, weight}
-use Rattle.ooo_lower.specs.Scenes.{home_at}
-use Rattle.ooo_shapes.specs.Shapes.{callees_within}
+use Rattle.std.proofs.Common.{◌≡◌, ◌+◌, ◌∙◌, ap, drop, subst, sym, None, arith}
+use Rattle.std.proofs.Math.ListN.{drop_of_length-le}
+use Rattle.ooo_bound.specs.declared.stat.BoundStat.{BoundStat}
+use Rattle.ooo_lower.specs.declared.extents.Extent.{Extent}
+use Rattle.ooo_bound.specs.declared.model.Bound.{Bound}
+use Rattle.ooo_lower.specs.Extents.{Count, Measures, else_shape, for_shape}
+use Rattle.ooo_lower.proofs.Measured.{but_less, but_nothing, from_part, plain_measures, stat_measures, then_measures}
+use Rattle.ooo_lower.proofs.Shaped.{shape_Block, shape_Do, shape_For, shape_If, shape_Simple, shape_While}
+use Rattle.ooo_shapes.specs.Shapes.{after_shape, body_shape, do_shape, if_shape, lead_size, lined_shape, lined_shapes, loop_shape, shape_of}
 use Rattle.ooo_lower.proofs.extents.+extents.Goals as goal
 
-pub of_call-of_stats-requires : goal.of_call-of_stats-requires
-of_call-of_stats-requires t c =
-    let found = c.in-Some.ensures in
-    let functions = c.args.scene.model.now.functions in (
-      call_falls c.args.depth (weight functions) (depth_of c.as_slice.result.now) t found.0
-          (subst (λ xs. depth_of xs + 1 ≤ weight functions) (sym c.as_slice.ensures) (lighter functions c.args.f c.in-Some.function.now found.1)) c.decreases,
-      tt,
-    )
+-- the size of a statement
+abbrev size_of : BoundStat → Count
+size_of s = λ h cs. (shape_of h cs s).size
 
-pub of_stat-returns-in-Block : goal.of_stat-returns-in-Block
-of_stat-returns-in-Block t c =
-    let home = home_at c.args.scene in
-    rw (c.in-Block.is, shape_Block home (callees_within c.args.depth home) c.in-Block.body, ← c.as_slice.ensures) c.of_stats.ensures
+-- what is measured is the statement that was taken out of its box
+same_stat : (m : Bound) (e : Extent) (s1 s : BoundStat) → s1 ≡ s → Measures e m (size_of s1) → Measures e m (size_of s)
+same_stat m e s1 s same p = subst (λ s. Measures e m (size_of s)) same p
+
+abbrev one : Count
+one = λ h cs. 1
+
+pub of_stat-returns-in_ok-all-in-Block : goal.of_stat-returns-in_ok-all-in-Block
+of_stat-returns-in_ok-all-in-Block t c =
+    let model = c.args.known.model.now in
+    stat_measures model c.in_ok-all-in-Block.all c.args.stat.now (λ h cs. body_shape h cs c.in-Block.body) (λ h cs. ap (shape_of h cs) c.in-Block.is ∙ shape_Block h cs c.in-Block.body)
+    (subst (λ xs. Measures c.in_ok-all-in-Block.all model (λ h cs. (body_shape h cs xs).size)) c.as_slice.ensures c.in_ok-all-in-Block.ensures)
+
+pub of_stat-returns-in_ok-all-in-Simple : goal.of_stat-returns-in_ok-all-in-Simple
+of_stat-returns-in_ok-all-in-Simple t c =
+    let model = c.args.known.model.now in
+    stat_measures model c.in_ok-all-in-Simple.all c.args.stat.now (λ h cs. lined_shape h cs c.in-Simple.x) (λ h cs. ap (shape_of h cs) c.in-Simple.is ∙ shape_Simple h cs c.in-Simple.x)
+    (subst (λ x. Measures c.in_ok-all-in-Simple.all model (λ h cs. (lined_shape h cs x).size)) c.get.ensures c.in_ok-all-in-Simple.ensures)
+
+pub of_stat-returns-in_ok-all-in-If : goal.of_stat-returns-in_ok-all-in-If
+of_stat-returns-in_ok-all-in-If t c =
+    let model = c.args.known.model.now in
+    let i = c.in-If in
+    let other : Count = λ h cs. (else_shape h cs i.no).size in
+    stat_measures model c.in_ok-all-in-If.all c.args.stat.now (λ h cs. if_shape i.field-0 i.field-1 (shape_of h cs i.yes) (else_shape h cs i.no)) (λ h cs. ap (shape_of h cs) i.is ∙ shape_If h cs i.field-0 i.field-1 i.yes i.no)
+    (then_measures model c.plain.result c.in_ok-branches-in-If.branches c.in_ok-all-in-If.all one (λ h cs. size_of i.yes h cs + other h cs) (plain_measures model c.plain.result 1 c.plain.ensures.nodes)
+    (then_measures model c.in_ok-yes-in-If.yes c.in_ok-no-in-If.no c.in_ok-branches-in-If.branches (size_of i.yes) other (same_stat model c.in_ok-yes-in-If.yes _ i.yes c.get-in-If.ensures c.in_ok-yes-in-If.ensures) c.in_ok-no-in-If.ensures c.in_ok-branches-in-If.ensures)
+    c.in_ok-all-in-If.ensures)
+
+pub of_stat-returns-in_ok-all-in-While : goal.of_stat-returns-in_ok-all-in-While
+of_stat-returns-in_ok-all-in-While t c =
+    let model = c.args.known.model.now in
+    let i = c.in-While in
+    stat_measures model c.in_ok-all-in-While.all c.args.stat.now (λ h cs. loop_shape i.field-0 i.field-1 None (shape_of h cs i.body)) (λ h cs. ap (shape_of h cs) i.is ∙ shape_While h cs i.field-0 i.field-1 i.body)
+    (then_measures model c.plain-in-While-2.result c.in_ok-turn-in-While.turn c.in_ok-all-in-While.all (λ h cs. 0) (λ h cs. 1 + size_of i.body h cs) (plain_measures model c.plain-in-While-2.result 0 c.plain-in-While-2.ensures.nodes)
+    (then_measures model c.plain-in-While.result c.in_ok-body-in-While.body c.in_ok-turn-in-While.turn one (size_of i.body) (plain_measures model c.plain-in-While.result 1 c.plain-in-While.ensures.nodes) (same_stat model c.in_ok-body-in-While.body _ i.body c.get-in-While.ensures c.in_ok-body-in-While.ensures) c.in_ok-turn-in-While.ensures)
+    c.in_ok-all-in-While.ensures)
+
+pub of_stat-returns-in_ok-all-in-Do : goal.of_stat-returns-in_ok-all-in-Do
+of_stat-returns-in_ok-all-in-Do t c =
+    let model = c.args.known.model.now in
+    let i = c.in-Do in
+    stat_measures model c.in_ok-all-in-Do.all c.args.stat.now (λ h cs. do_shape i.field-0 i.field-2 (shape_of h cs i.body)) (λ h cs. ap (shape_of h cs) i.is ∙ shape_Do h cs i.field-0 i.body i.field-2)
+    (then_measures model c.in_ok-body-in-Do.body c.plain-in-Do.result c.in_ok-all-in-Do.all (size_of i.body) one (same_stat model c.in_ok-body-in-Do.body _ i.body c.get-in-Do.ensures c.in_ok-body-in-Do.ensures) (plain_measures model c.plain-in-Do.result 1 c.plain-in-Do.ensures.nodes) c.in_ok-all-in-Do.ensures)
+
+pub of_stat-returns-in_ok-all-in-For : goal.of_stat-returns-in_ok-all-in-For
+of_stat-returns-in_ok-all-in-For t c =
+    let model = c.args.known.model.now in
+    let i = c.in-For in
+    let first : Count = λ h cs. (lined_shapes h cs i.begin).size in
+    let lead : Count = λ h cs. lead_size (after_shape h cs i.after) in
+    stat_measures model c.in_ok-all-in-For.all c.args.stat.now (λ h cs. for_shape h cs i.field-0 i.begin i.field-2 i.after i.body) (λ h cs. ap (shape_of h cs) i.is ∙ shape_For h cs i.field-0 i.begin i.field-2 i.after i.body)
+    (then_measures model c.in_ok-begin-in-For.begin c.in_ok-repeated-in-For.repeated c.in_ok-all-in-For.all first (λ h cs. lead h cs + (1 + size_of i.body h cs)) (subst (λ xs. Measures c.in_ok-begin-in-For.begin model (λ h cs. (lined_shapes h cs xs).size)) c.as_slice-in-For.ensures c.in_ok-begin-in-For.ensures)
+    (then_measures model c.in_ok-lead-in-For.lead c.in_ok-turn-in-For.turn c.in_ok-repeated-in-For.repeated lead (λ h cs. 1 + size_of i.body h cs) c.in_ok-lead-in-For.ensures
+    (then_measures model c.plain-in-For.result c.in_ok-body-in-For.body c.in_ok-turn-in-For.turn one (size_of i.body) (plain_measures model c.plain-in-For.result 1 c.plain-in-For.ensures.nodes) (same_stat model c.in_ok-body-in-For.body _ i.body c.get-in-For.ensures c.in_ok-body-in-For.ensures) c.in_ok-turn-in-For.ensures)
+    c.in_ok-repeated-in-For.ensures)
+    c.in_ok-all-in-For.ensures)
+
+pub of_stats-parts-init : goal.of_stats-parts-init
+of_stats-parts-init t c = λ s d le. omega (arith, c.plain-all.ensures.nodes)
+
+pub of_stats-parts-preserved : goal.of_stats-parts-preserved
+of_stats-parts-preserved t c =
+    let body = c.args.body.now in
+    let i = c.parts.stat-index in
+    but_less c.args.known.model.now c.parts.all c.in_ok-part.part _
+    (λ h cs. (shape_of h cs c.stat-item.result).size)
+    (λ h cs. (body_shape h cs (drop i body)).size)
+    (λ h cs. (body_shape h cs (drop (i + 1) body)).size)
+    (λ h cs. (body_shape h cs body).size)
+    (λ h cs. ap (λ ys. (body_shape h cs ys).size) (from_part body i c.stat-item.result c.parts-test.true c.stat-item.is))
+    c.parts.invariant c.in_ok-part.ensures c.in_ok-all.ensures
+
+pub of_stats-returns : goal.of_stats-returns
+of_stats-returns t c =
+    let body = c.args.body.now in
+    but_nothing c.args.known.model.now c.parts.all
+    (λ h cs. (body_shape h cs (drop c.parts.stat-index body)).size)
+    (λ h cs. (body_shape h cs body).size)
+    (λ h cs. ap (λ ys. (body_shape h cs ys).size) (drop_of_length-le body (omega (arith, c.parts-test.false))))
+    c.parts.invariant
+
+pub of_else-returns-in_ok-all-in-Some : goal.of_else-returns-in_ok-all-in-Some
+of_else-returns-in_ok-all-in-Some t c =
+    let model = c.args.known.model.now in
+    let e = c.in_ok-all-in-Some.all in
+    subst (λ o. Measures e model (λ h cs. (else_shape h cs o).size)) (sym c.in-Some.is) (same_stat model e _ c.in-Some.stat c.get.ensures c.in_ok-all-in-Some.ensures)

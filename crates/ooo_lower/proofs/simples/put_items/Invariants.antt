@@ -1,9 +1,0 @@
-use Rattle.std.proofs.Common.{◌≡◌, ◌++◌, length, drop}
-use Rattle.ooo_shapes.specs.Simples.{item_nodes}
-use Rattle.ooo_lower.proofs.simples.put_items.Given as goal
-
-abbrev pub invariant-parts : goal.invariant-parts
-invariant-parts l =
-    (l.left ≡ length (drop l.item-index l.items))
-    × (l.code.nodes ++ item_nodes l.spot.around (drop l.item-index l.items) l.spot.line (length l.code.nodes) l.spot.next ≡ l.initial.code.nodes ++ item_nodes l.spot.around l.items l.spot.line (length l.initial.code.nodes) l.spot.next)
-    × (l.code.slots ≡ l.initial.code.slots)
