@@ -1,5 +1,5 @@
 -- As a simulation starts, the scheduler's world is that of the steps; so its whole run makes them.
-use Rattle.std.proofs.Common.{◌≡◌, ℕ, zero, suc, ◌<◌, ◌≤◌, ◌+◌, ◌==◌, inl, ⊎_elim, List, [], ◌∷◌, length, map, replicate, Bool, true, false, if◌then◌else◌, Option, Some, None, refl, sym, ap, ◌∙◌, subst, arith}
+use Rattle.std.proofs.Common.{◌≡◌, ℕ, zero, suc, ◌<◌, ◌+◌, ◌==◌, inl, inr, ⊎_elim, List, [], ◌∷◌, length, map, replicate, Bool, true, false, not, if◌then◌else◌, Option, Some, None, refl, sym, ap, ◌∙◌, subst, arith}
 use Rattle.std.specs.Prelude.{IsSome, pos, slice_get}
 use Rattle.std.specs.List.{list_any}
 use Rattle.std.proofs.lemmas.Bool.{eqb-true}
@@ -28,30 +28,35 @@ use Rattle.ooo_code.specs.Nodes.{by_nodes, first_frame}
 use Rattle.ooo_code.specs.Sound.{FitsEvent, IsSound, fifo_kind, signal_kind}
 use Rattle.ooo_events.specs.Slots.{Nothing, due_of}
 use Rattle.ooo_history.specs.declared.run.End.TheVariants as history
+use Rattle.ooo_history.specs.declared.run.Entry.{Entry}
+use Rattle.ooo_history.specs.declared.run.What.TheVariants.{Changed}
 use Rattle.ooo_meaning.specs.Runs.{ascending, first_channels, first_wait, holder_of, holds_reading, holds_writing, start_of}
 use Rattle.ooo_meaning.specs.Sequence.{Result, finish, result_of, run, run_whole}
 use Rattle.ooo_meaning.specs.World as real
 use Rattle.ooo_meaning.specs.World.{Wait, World, channel_at, never, no_channel, slot_at, wait_at, zero_stamp}
-use Rattle.ooo_channels.specs.Agreement.{AreAlike, IsAhead}
+use Rattle.ooo_channels.specs.Agreement.{AreAlike, IsAhead, history_at}
 use Rattle.ooo_channels.specs.Calls.{channel_of}
-use Rattle.ooo_channels.specs.Cycles.{channel_in, cycle_at, cycle_of, first_cycle}
+use Rattle.ooo_channels.specs.Cycles.{channel_in, cycle_at, cycle_of, first_cycle, history_in, whole_history}
 use Rattle.ooo_schedules.specs.Design as steps
-use Rattle.ooo_schedules.specs.Going.{GoesOn}
+use Rattle.ooo_schedules.specs.Going.{ComesToEnd, Going, GoesOn, NoneDue}
 use Rattle.ooo_schedules.specs.Model.{In}
 use Rattle.ooo_schedules.specs.Program.{Program}
 use Rattle.ooo_schedules.specs.Sequence.{Evaluates, RunsTo, Sched, begin, ends, late, no_more, skips, slot_updated, starts_now, update}
 use Rattle.ooo_schedules.specs.Tables.{program}
 use Rattle.ooo_schedules.specs.Updates.{note, noted_by}
-use Rattle.ooo_schedules.specs.Worlds.{Waiting, same_wait}
+use Rattle.ooo_schedules.specs.Worlds.{same_wait}
 use Rattle.ooo_dispatch.specs.Boards.{AreRules}
 use Rattle.ooo_dispatch.specs.Rules as rule
 use Rattle.ooo_dispatch.specs.Rules.{Rules, cells_after, first_value, operations_of, origin_of, segment_at, start_value, start_wait, tables}
-use Rattle.ooo_dispatch.specs.Scheduler.{AreMadeAs, none_made}
+use Rattle.ooo_dispatch.specs.Scheduler.{none_made}
 use Rattle.ooo_dispatch.proofs.Accessed.{element, origin_is}
 use Rattle.ooo_dispatch.proofs.Acting.{Does}
 use Rattle.ooo_dispatch.proofs.Asked.{AskedAs, PutAsked, SignalAsked, TakeAsked}
 use Rattle.ooo_dispatch.proofs.Distinct.{get_mapped}
+use Rattle.ooo_dispatch.proofs.Cores.{same_self}
 use Rattle.ooo_dispatch.proofs.Ending.{active_source}
+use Rattle.ooo_dispatch.proofs.Ends.{by_idle}
+use Rattle.ooo_dispatch.proofs.Histories.{AreHistories}
 use Rattle.ooo_dispatch.proofs.Running.{Went, no_wait, run_goes}
 use Rattle.ooo_dispatch.proofs.Shown.{started}
 use Rattle.ooo_dispatch.proofs.Starts.{first_segment, starts_as}
@@ -69,6 +74,18 @@ nothing_there (suc n) (suc e) = nothing_there n e
 nothing_count : (n : ℕ) → length (replicate n Nothing) ≡ n
 nothing_count zero = refl
 nothing_count (suc n) = ap suc (nothing_count n)
+
+abbrev no_entries : List Entry
+no_entries = []
+
+empty_count : (n : ℕ) → length (replicate n no_entries) ≡ n
+empty_count zero = refl
+empty_count (suc n) = ap suc (empty_count n)
+
+empty_there : (n c : ℕ) → history_at (replicate n no_entries) c ≡ []
+empty_there zero c = refl
+empty_there (suc n) zero = refl
+empty_there (suc n) (suc c) = empty_there n c
 
 channels_first : (design : Design) (n : ℕ) (xs : List BoundChannel) → length (first_channels design n xs) ≡ length xs
 channels_first design n [] = refl
@@ -196,6 +213,31 @@ module _ (r : Rules) (rules : AreRules r) (sound : IsSound r.design) where
       b : (x : BoundChannel) × (slice_get r.design.channels c ≡ Some x)
       b = element r.design.channels c lt
 
+  histories_start : (of : ℕ → List Entry) → ((c : ℕ) → of c ≡ []) → AreHistories r w.histories of
+  histories_start of none = record {
+    count = empty_count (length w.channels) ∙ channels_first r.design 0 r.design.channels;
+    each = λ c lt. empty_there (length w.channels) c ∙ sym (none c);
+  }
+
+  history_start : (c : ℕ) → history_in zero_stamp (operations_of r []) c ≡ []
+  history_start c = ap (λ z. (cycle_at zero_stamp z).history) (cycle_start c) ∙ at (slice_get r.design.channels c)
+    where
+      at : (o : Option BoundChannel) → (cycle_at zero_stamp (first_cycle o)).history ≡ []
+      at None = refl
+      at (Some b) = refl
+
+  -- and the whole of each is empty
+  whole_start : (c : ℕ) → whole_history (cycle_of (operations_of r []) c) ≡ []
+  whole_start c = ap whole_history (cycle_start c) ∙ at (slice_get r.design.channels c)
+    where
+      kind : (k : ChannelKind) (b : BoundChannel) → real.entries_of zero_stamp (of_kind k b None None) ≡ []
+      kind channel.Signal b = ap (λ t. if not t then record { stamp = zero_stamp; what = Changed; value = value_of b.value (pos 0) } ∷ [] else []) (same_self (value_of b.value (pos 0)))
+      kind channel.Fifo b = refl
+
+      at : (o : Option BoundChannel) → whole_history (first_cycle o) ≡ []
+      at None = ap (λ t. if not t then record { stamp = zero_stamp; what = Changed; value = no_value } ∷ [] else []) (same_self no_value)
+      at (Some b) = kind b.kind b
+
   by_start : (c : ℕ) → IsBefore zero_stamp (cycle_of (operations_of r []) c).stamp → ⊥
   by_start c = subst (λ z. IsBefore zero_stamp z.stamp → ⊥) (sym (cycle_start c)) (at (slice_get r.design.channels c))
     where
@@ -274,10 +316,12 @@ module _ (r : Rules) (rules : AreRules r) (sound : IsSound r.design) where
           subst (λ y. HeldBy y (holder_of r.design (holds_reading c)) (holder_of r.design (holds_writing c))) (sym (channel_start c b.0 b.1)) (first_held b.0.kind b.0 (holder_of r.design (holds_reading c)) (holder_of r.design (holds_writing c)));
     };
     by = by_start;
+    histories = histories_start (λ c. history_in zero_stamp (operations_of r []) c) history_start;
     places_count = length-map r.design.processes first_frame;
     placed = place_start;
     sorted = refl;
     descend = tt;
+    past = λ y i. absurd i;
     made = none_made;
   }
 
@@ -295,41 +339,57 @@ module _ (r : Rules) (rules : AreRules r) (sound : IsSound r.design) where
   nothing_noted (event.Written c) v = refl
   nothing_noted (event.Taken c) v = refl
 
-  module _ (some : 0 < r.limits.deltas) (law : GoesOn p) (does : Does) (reads : ReadsTouched) (changes : ChangesTouched) where
+  module _ (some : 0 < r.limits.deltas) (law : GoesOn p) (comes : ComesToEnd p) (does : Does) (reads : ReadsTouched) (changes : ChangesTouched) where
     -- nobody is ready, and nothing is pending
-    no_start : ((q : ℕ) → (wait_at w.waits q).runnable ≡ false) → RunsTo p (begin p) [] []
-    no_start off = late (begin p) (update p (begin p)) (skip_all (length r.design.processes) 0 (omega arith) (begin p) [] none) (λ y i. absurd i) no_more (record { times = times; events = events })
-      where
-        none : (q : ℕ) → starts_now (rule.start_of r q) ≡ false
-        none q = (starts_alike q).runnable ∙ off q
+    module _ (off : (q : ℕ) → (wait_at w.waits q).runnable ≡ false) where
+      none : (q : ℕ) → starts_now (rule.start_of r q) ≡ false
+      none q = (starts_alike q).runnable ∙ off q
 
-        times : (q : ℕ) (x : Waiting) (u : Stamp) → same_wait (rule.start_of r q) ≡ Some x → x.timeout ≡ Some u → u.time.0 ≤ r.limits.stop.0 → ⊥
-        times q x u i j le =
-            let a = subst (λ y. WaitsAlike y (wait_at w.waits q)) i ((starts_alike q).waits (none q)) in
-            let c : None ≡ Some u = sym (a.0 ∙ ap due_of (starts_alike q).timeout) ∙ j in
-            cc
+      going_all : (m q : ℕ) → q + m ≡ length r.design.processes → Going p (begin p) [] q → Going p (begin p) [] (length r.design.processes)
+      going_all zero q e g = subst (Going p (begin p) []) (let k : q ≡ length r.design.processes = omega (arith, e) in k) g
+      going_all (suc m) q e g = going_all m (suc q) (omega (arith, e)) (law.skips (begin p) [] q g (none q))
 
-        events : (q : ℕ) (x : Waiting) (e : ℕ) (u : Stamp) → same_wait (rule.start_of r q) ≡ Some x → In e x.events → (update p (begin p)).slots e ≡ Some u → u.time.0 ≤ r.limits.stop.0 → ⊥
-        events q x e u i j k le = let c : None ≡ Some u = sym (nothing_noted (origin_of r e) (first_value r.design.channels (origin_of r e))) ∙ k in cc
+      none_due : NoneDue (update p (begin p))
+      none_due q u (x, i, h) = ⊎_elim timed noted h
+        where
+          timed : x.timeout ≡ Some u → ⊥
+          timed j =
+              let a = subst (λ y. WaitsAlike y (wait_at w.waits q)) i ((starts_alike q).waits (none q)) in
+              let c : None ≡ Some u = sym (a.0 ∙ ap due_of (starts_alike q).timeout) ∙ j in
+              cc
+
+          noted : (e : ℕ) × In e x.events × ((update p (begin p)).slots e ≡ Some u) → ⊥
+          noted (e, j, k) = let c : None ≡ Some u = sym (nothing_noted (origin_of r e) (first_value r.design.channels (origin_of r e))) ∙ k in cc
+
+      no_start : RunsTo p (begin p) [] []
+      no_start = late (begin p) (update p (begin p)) (skip_all (length r.design.processes) 0 (omega arith) (begin p) [] none) (λ y i. absurd i) no_more (record { times = λ q x u i j le. none_due q u (x, i, inl j); events = λ q x e u i j k le. none_due q u (x, i, inr (e, j, k)) })
+
+      -- the run is over without an activation
+      never_runs : Went r rules sound some law comes does reads changes (begin p) [] (result_of w (history.Idle zero_stamp))
+      never_runs = record {
+        log = [];
+        runs = no_start;
+        made = none_made;
+        ends = by_idle zero_stamp refl refl (comes.idles (begin p) [] (update p (begin p)) (going_all (length r.design.processes) 0 (omega arith) law.begins) (λ y i. absurd i) no_more none_due) refl;
+        histories = histories_start (λ c. whole_history (cycle_of (operations_of r []) c)) whole_start;
+      }
 
     no_active : (a : Stamp) → real.least_activity w ≡ Some a → ⊥
     no_active a e =
         ⊎_elim (λ s. let c : None ≡ Some a = sym (ap due_of (starts_alike s.0).timeout) ∙ s.1 in cc) (λ s. let c : None ≡ Some a = sym (ap due_of (nothing_there (length r.design.events) s.0)) ∙ s.1 in cc) (active_source w a e)
 
-    pub whole : (n : ℕ) (result : Result) → run_whole (by_nodes r.design r.limits.statements) (ascending r.design) r.limits n (start_of r.design) ≡ Some result → Went r rules sound some law does reads changes (begin p) [] result
+    pub whole : (n : ℕ) (result : Result) → run_whole (by_nodes r.design r.limits.statements) (ascending r.design) r.limits n (start_of r.design) ≡ Some result → Went r rules sound some law comes does reads changes (begin p) [] result
     unfolding run_whole real.notified
     whole n result e = at (list_any (λ x. x.runnable) w.waits) refl e
       where
-        delta : (b : Bool) → (0 == r.limits.deltas) ≡ b → finish places (if b then real.Over w (history.Deltas zero_stamp) else real.Goes w) (run (by_nodes r.design r.limits.statements) (ascending r.design) r.limits n) ≡ Some result → Went r rules sound some law does reads changes (begin p) [] result
+        delta : (b : Bool) → (0 == r.limits.deltas) ≡ b → finish places (if b then real.Over w (history.Deltas zero_stamp) else real.Goes w) (run (by_nodes r.design r.limits.statements) (ascending r.design) r.limits n) ≡ Some result → Went r rules sound some law comes does reads changes (begin p) [] result
         delta true is k = absurd (let z = eqb-true 0 r.limits.deltas is in omega (arith, some, z))
-        delta false is k = run_goes r rules sound some law does reads changes n w places (begin p) [] start_alike law.begins result k
+        delta false is k = run_goes r rules sound some law comes does reads changes n w places (begin p) [] start_alike law.begins result k
 
-        later : (o : Option Stamp) → real.least_activity w ≡ o → ((q : ℕ) → (wait_at w.waits q).runnable ≡ false) → finish places (real.later r.limits w o) (run (by_nodes r.design r.limits.statements) (ascending r.design) r.limits n) ≡ Some result → Went r rules sound some law does reads changes (begin p) [] result
+        later : (o : Option Stamp) → real.least_activity w ≡ o → ((q : ℕ) → (wait_at w.waits q).runnable ≡ false) → finish places (real.later r.limits w o) (run (by_nodes r.design r.limits.statements) (ascending r.design) r.limits n) ≡ Some result → Went r rules sound some law comes does reads changes (begin p) [] result
         later (Some a) is off k = absurd (no_active a is)
-        later None is off k =
-            let same : result_of w (history.Idle (real.last_stamp [])) ≡ result = cc in
-            record { log = []; runs = no_start off; made = subst (λ z. AreMadeAs r z.made []) same none_made }
+        later None is off k = let same : result_of w (history.Idle zero_stamp) ≡ result = cc in subst (Went r rules sound some law comes does reads changes (begin p) []) same (never_runs off)
 
-        at : (b : Bool) → list_any (λ x. x.runnable) w.waits ≡ b → finish places (if b then real.in_delta r.limits w else real.later r.limits w (real.least_activity w)) (run (by_nodes r.design r.limits.statements) (ascending r.design) r.limits n) ≡ Some result → Went r rules sound some law does reads changes (begin p) [] result
+        at : (b : Bool) → list_any (λ x. x.runnable) w.waits ≡ b → finish places (if b then real.in_delta r.limits w else real.later r.limits w (real.least_activity w)) (run (by_nodes r.design r.limits.statements) (ascending r.design) r.limits n) ≡ Some result → Went r rules sound some law comes does reads changes (begin p) [] result
         at true b k = delta (0 == r.limits.deltas) refl k
         at false b k = later (real.least_activity w) refl (no_wait w.waits b) k

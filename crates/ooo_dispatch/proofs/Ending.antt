@@ -1,5 +1,5 @@
 -- What is due next in the scheduler's world, and when nothing is.
-use Rattle.std.proofs.Common.{◌≡◌, ℕ, zero, suc, ◌≤◌, ◌⊎◌, inl, inr, ⊎_elim, List, [], ◌∷◌, map, Bool, true, false, if◌then◌else◌, Option, Some, None, refl, sym, ◌∙◌, subst}
+use Rattle.std.proofs.Common.{◌≡◌, ℕ, zero, suc, ◌≤◌, ◌⊎◌, inl, inr, ⊎_elim, List, [], ◌∷◌, map, Bool, true, false, if◌then◌else◌, Option, Some, None, refl, sym, ap, ◌∙◌, subst}
 use Rattle.std.specs.Prelude.{slice_get}
 use Rattle.ooo_time.specs.declared.stamp.Stamp.{Stamp}
 use Rattle.ooo_time.specs.declared.time.Time.{Time}
@@ -7,6 +7,7 @@ use Rattle.ooo_time.specs.Stamps.{IsBefore, is_before}
 use Rattle.ooo_events.specs.Slots.{Slot, due_of}
 use Rattle.ooo_meaning.specs.World as real
 use Rattle.ooo_meaning.specs.World.{Wait, World, slot_at, wait_at}
+use Rattle.ooo_schedules.specs.Going.{IsDue}
 use Rattle.ooo_schedules.specs.Model.{In}
 use Rattle.ooo_schedules.specs.Sequence.{AllLate}
 use Rattle.ooo_schedules.specs.Worlds as cycle
@@ -73,7 +74,7 @@ event_least slots x e u i k =
     sooner_least (due_of x.timeout) (real.least (map (λ d. due_of (slot_at slots d)) x.events)) u
     (inr (in_least (map (λ d. due_of (slot_at slots d)) x.events) u (subst (λ o. In o (map (λ d. due_of (slot_at slots d)) x.events)) k (in_map (λ d. due_of (slot_at slots d)) x.events e i))))
 
-wait_there : (slots : List Slot) (waits : List Wait) (q : ℕ) (u : Stamp) → Least (real.activity slots (wait_at waits q)) u → Least (real.least (map (real.activity slots) waits)) u
+pub wait_there : (slots : List Slot) (waits : List Wait) (q : ℕ) (u : Stamp) → Least (real.activity slots (wait_at waits q)) u → Least (real.least (map (real.activity slots) waits)) u
 wait_there slots [] q u h = h
 wait_there slots (x ∷ waits) zero u h = first_least (real.activity slots x) (real.least (map (real.activity slots) waits)) u h
 wait_there slots (x ∷ waits) (suc q) u h = second_least (real.activity slots x) (real.least (map (real.activity slots) waits)) u (wait_there slots waits q u h)
@@ -155,3 +156,53 @@ pending_least w u h =
     ⊎_elim
     (λ k. second_least (real.least (map due_of w.slots)) (real.least (map (λ x. due_of x.timeout) w.waits)) u (in_least (map (λ x. due_of x.timeout) w.waits) u (in_times w.waits k.0 u k.1)))
     (λ k. first_least (real.least (map due_of w.slots)) (real.least (map (λ x. due_of x.timeout) w.waits)) u (in_least (map due_of w.slots) u (in_slots w.slots k.0 u k.1))) h
+
+-- ---- who is due
+
+activity_at : (slots : List Slot) (waits : List Wait) (u : Stamp) → In (Some u) (map (real.activity slots) waits) → (q : ℕ) × (real.activity slots (wait_at waits q) ≡ Some u)
+activity_at slots [] u i = absurd i
+activity_at slots (x ∷ xs) u (inl e) = (0, sym e)
+activity_at slots (x ∷ xs) u (inr i) = let r = activity_at slots xs u i in (suc r.0, r.1)
+
+event_at : (slots : List Slot) (es : List ℕ) (u : Stamp) → In (Some u) (map (λ d. due_of (slot_at slots d)) es) → (e : ℕ) × In e es × (due_of (slot_at slots e) ≡ Some u)
+event_at slots [] u i = absurd i
+event_at slots (d ∷ es) u (inl e) = (d, inl refl, sym e)
+event_at slots (d ∷ es) u (inr i) = let r = event_at slots es u i in (r.0, inr r.1, r.2)
+
+module _ (w : World) (v : cycle.World) (a : AlikeWorlds w v) (none : (q : ℕ) → v.runnable q ≡ false) where
+  -- who is due in the steps isn't before the earliest activity
+  pub due_least : (q : ℕ) (u : Stamp) → IsDue v q u → Least (real.least_activity w) u
+  due_least q u (x, i, h) = ⊎_elim timed noted h
+    where
+      alike : (x.timeout ≡ due_of (wait_at w.waits q).timeout) × (x.events ≡ (wait_at w.waits q).events)
+      alike = subst (λ y. WaitsAlike y (wait_at w.waits q)) i (a.waits q (none q))
+
+      timed : x.timeout ≡ Some u → Least (real.least_activity w) u
+      timed t = wait_there w.slots w.waits q u (timeout_least w.slots (wait_at w.waits q) u (sym alike.0 ∙ t))
+
+      noted : (e : ℕ) × In e x.events × (v.slots e ≡ Some u) → Least (real.least_activity w) u
+      noted (e, j, k) = wait_there w.slots w.waits q u (event_least w.slots (wait_at w.waits q) e u (subst (λ es. In e es) alike.1 j) (sym (a.slots e) ∙ k))
+
+  -- and who has the earliest activity is due
+  pub due_source : (u : Stamp) → real.least_activity w ≡ Some u → (q : ℕ) × IsDue v q u
+  due_source u e = (s.0, at (v.waits s.0) refl)
+    where
+      s : (q : ℕ) × (real.activity w.slots (wait_at w.waits q) ≡ Some u)
+      s = activity_at w.slots w.waits u (least_source (map (real.activity w.slots) w.waits) u e)
+
+      y : Wait
+      y = wait_at w.waits s.0
+
+      at : (o : Option Waiting) → v.waits s.0 ≡ o → IsDue v s.0 u
+      at None i =
+          let alike = subst (λ o. WaitsAlike o y) i (a.waits s.0 (none s.0)) in
+          let nothing : real.activity w.slots y ≡ None = ap (λ t. real.sooner (due_of t) (real.least (map (λ d. due_of (slot_at w.slots d)) y.events))) alike.1 ∙ ap (λ es. real.least (map (λ d. due_of (slot_at w.slots d)) es)) alike.0 in
+          absurd (let k : None ≡ Some u = sym nothing ∙ s.1 in cc)
+      at (Some x) i =
+          let alike = subst (λ o. WaitsAlike o y) i (a.waits s.0 (none s.0)) in (
+            x,
+            i,
+            ⊎_elim (λ t. inl (alike.0 ∙ t))
+                (λ t. let k = event_at w.slots y.events u (least_source (map (λ d. due_of (slot_at w.slots d)) y.events) u t) in inr (k.0, subst (λ es. In k.0 es) (sym alike.1) k.1, a.slots k.0 ∙ k.2))
+                (sooner_source (due_of y.timeout) (real.least (map (λ d. due_of (slot_at w.slots d)) y.events)) u s.1),
+          )

@@ -91,6 +91,7 @@ module _ (r : Rules) (rules : AreRules r) (sound : IsSound r.design) where
       ahead = first_ahead;
       quiet = first_quiet;
       channels = refl;
+      histories = refl;
       variables = refl;
       events = refl;
       made = refl;
@@ -175,6 +176,7 @@ module _ (r : Rules) (rules : AreRules r) (sound : IsSound r.design) where
         ahead = later_ahead;
         quiet = later_quiet;
         channels = refl;
+        histories = refl;
         variables = refl;
         events = refl;
         made = refl;

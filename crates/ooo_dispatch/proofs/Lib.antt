@@ -19,6 +19,7 @@ pub mod Cells
 pub mod Channels
 pub mod Sights
 pub mod Shown
+pub mod Histories
 pub mod Enough
 pub mod Ahead
 pub mod Cores
@@ -34,5 +35,6 @@ pub mod Ending
 pub mod Onward
 pub mod Sequenced
 pub mod Finishing
+pub mod Ends
 pub mod Running
 pub mod Beginning

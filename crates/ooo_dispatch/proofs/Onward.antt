@@ -14,12 +14,14 @@ use Rattle.ooo_code.specs.Sound.{IsSound}
 use Rattle.ooo_events.specs.Slots.{AtTime, NextDelta, Nothing, Slot, due_of, slot_after_delta, slot_left_at}
 use Rattle.ooo_meaning.specs.Runs.{holder_of, holds_reading, holds_writing}
 use Rattle.ooo_meaning.specs.World as real
-use Rattle.ooo_meaning.specs.World.{Wait, World, channel_at, next_delta, no_channel, notified_slots, slot_at, wait_at, woken}
+use Rattle.ooo_meaning.specs.World.{Wait, World, channel_at, longer_histories, next_delta, no_channel, notified_slots, slot_at, wait_at, woken}
 use Rattle.ooo_channels.specs.Agreement.{AreAlike, IsAhead, IsNextStamp}
 use Rattle.ooo_channels.specs.Calls.{channel_of}
-use Rattle.ooo_channels.specs.Cycles.{Cycle, channel_in, cycle_of, later_channel}
+use Rattle.ooo_channels.specs.Agreement.{history_at}
+use Rattle.ooo_channels.specs.Cycles.{Cycle, channel_in, cycle_of, history_in, later_channel, whole_history}
 use Rattle.ooo_dispatch.proofs.Ahead.{notified_ahead}
 use Rattle.ooo_dispatch.proofs.Cores.{later_here, later_there}
+use Rattle.ooo_dispatch.proofs.Histories.{AreHistories, grown_count, history_grown, history_later, history_updated}
 use Rattle.ooo_schedules.specs.Delays.{NotAfter}
 use Rattle.ooo_schedules.specs.Program.{Program}
 use Rattle.ooo_schedules.specs.Sequence as steps
@@ -173,6 +175,16 @@ module _ (r : Rules) (rules : AreRules r) (sound : IsSound r.design) where
     pub delta_next : NextStamp (steps.update p t) (next_delta w.stamp)
     delta_next = next_stamp (real.update w) (steps.update p t) (next_delta w.stamp) update_alike none delta_from (subst (λ u. IsBefore u (next_delta w.stamp)) (sym a.stamp) (inr (refl, omega arith)))
 
+    -- the histories after the update are the whole ones so far
+    pub updated_histories : AreHistories r (longer_histories w.stamp w.channels w.histories) (λ c. whole_history (cycle_of (operations_of r ys) c))
+    updated_histories = record {
+      count = grown_count w.stamp w.channels w.histories ∙ a.histories.count;
+      each = λ c lt.
+          history_grown w.stamp w.channels w.histories c (let e = a.world.channels_count in omega (arith, lt, e)) (let e = a.histories.count in omega (arith, lt, e))
+          ∙ ap (λ h. h ++ real.entries_of w.stamp (channel_at w.channels c)) (a.histories.each c lt)
+          ∙ history_updated w.stamp (cycle_of (operations_of r ys) c) (a.by c) (channel_at w.channels c) (a.world.channels c lt);
+    }
+
     -- ---- the next evaluation, at a later stamp
 
     -- the scheduler's world there: after the update, with the waits and the slots of that stamp
@@ -186,6 +198,7 @@ module _ (r : Rules) (rules : AreRules r) (sound : IsSound r.design) where
       pub ahead : (e : ℕ) → IsAhead s (slot_at n.slots e)
       pub quiet : (e : ℕ) → origin_of r e ≢ event.Own → slot_at n.slots e ≡ Nothing
       pub channels : n.channels ≡ map (updated w.stamp.time) w.channels
+      pub histories : n.histories ≡ longer_histories w.stamp w.channels w.histories
       pub variables : n.variables ≡ w.variables
       pub events : n.events ≡ w.events
       pub made : n.made ≡ w.made
@@ -196,6 +209,18 @@ module _ (r : Rules) (rules : AreRules r) (sound : IsSound r.design) where
     before_next s n = ⊎_elim (λ e. subst (IsBefore w.stamp) (sym e) (inr (refl, omega arith))) (λ lt. inl lt) n
 
     module _ (v : cycle.World) (n : World) (s : Stamp) (i : IsWorldAt v n s) where
+      after_past : (u : Stamp) → NotAfter u w.stamp → IsBefore u s
+      after_past u h = ⊎_elim (λ k. transitive u w.stamp s k (before_next s i.next)) (λ e. subst (λ x. IsBefore x s) (sym e) (before_next s i.next)) h
+
+      cycle_past : (c : ℕ) → NotAfter (cycle_of (operations_of r ys) c).stamp w.stamp
+      cycle_past c = ⊎_elim (λ k. inl k) (λ k. ⊎_elim (λ e. inr e) (λ k. absurd (a.by c k)) k) (compare (cycle_of (operations_of r ys) c).stamp w.stamp)
+
+      histories_next : AreHistories r n.histories (λ c. history_in s (operations_of r ys) c)
+      histories_next = record {
+        count = ap length i.histories ∙ updated_histories.count;
+        each = λ c lt. ap (λ hs. history_at hs c) i.histories ∙ updated_histories.each c lt ∙ sym (history_later s (cycle_of (operations_of r ys) c) (after_past (cycle_of (operations_of r ys) c).stamp (cycle_past c)));
+      }
+
       channel_next : (c : ℕ) → c < length r.design.channels → AreAlike s.time (channel_in s (operations_of r ys) c) (channel_at n.channels c)
       channel_next c lt =
           subst (λ y. AreAlike s.time (channel_in s (operations_of r ys) c) y) (sym (ap (λ xs. channel_at xs c) i.channels ∙ channel_map (updated w.stamp.time) w.channels c here))
@@ -207,11 +232,8 @@ module _ (r : Rules) (rules : AreRules r) (sound : IsSound r.design) where
           z : Cycle
           z = cycle_of (operations_of r ys) c
 
-          not_after : NotAfter z.stamp w.stamp
-          not_after = ⊎_elim (λ k. inl k) (λ k. ⊎_elim (λ e. inr e) (λ k. absurd (a.by c k)) k) (compare z.stamp w.stamp)
-
           later : IsBefore z.stamp s
-          later = ⊎_elim (λ k. transitive z.stamp w.stamp s k (before_next s i.next)) (λ e. subst (λ x. IsBefore x s) (sym e) (before_next s i.next)) not_after
+          later = after_past z.stamp (cycle_past c)
 
           moves : channel_in s (operations_of r ys) c ≡ later_channel s z
           moves = ap (λ b. (let y : Cycle = if b then record { stamp = s; channel = later_channel s z; history = z.history ++ real.entries_of z.stamp z.channel } else z in y.channel)) (before_yes z.stamp s later)
@@ -272,5 +294,7 @@ module _ (r : Rules) (rules : AreRules r) (sound : IsSound r.design) where
         placed = a.placed;
         sorted = a.sorted;
         descend = a.descend;
+        histories = subst (λ u. AreHistories r n.histories (λ c. history_in u (operations_of r ys) c)) (sym i.stamp) histories_next;
+        past = λ y j. inl (subst (IsBefore y.stamp) (sym i.stamp) (after_past y.stamp (a.past y j)));
         made = subst (λ ms. AreMadeAs r ms ys) (sym i.made) a.made;
       }

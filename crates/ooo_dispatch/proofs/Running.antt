@@ -11,11 +11,13 @@ use Rattle.ooo_code.specs.Outcomes.{Activate}
 use Rattle.ooo_code.specs.Sound.{IsSound}
 use Rattle.ooo_history.specs.declared.run.End.{End}
 use Rattle.ooo_history.specs.declared.run.End.TheVariants as history
+use Rattle.ooo_history.specs.declared.run.Entry.{Entry}
+use Rattle.ooo_channels.specs.Cycles.{cycle_of, history_in, whole_history}
 use Rattle.ooo_meaning.specs.Runs.{numbers_from}
 use Rattle.ooo_meaning.specs.Sequence.{Result, State, evaluate, finish, result_of, run, state_of, turn}
 use Rattle.ooo_meaning.specs.World as real
 use Rattle.ooo_meaning.specs.World.{Wait, World, next_delta, wait_at}
-use Rattle.ooo_schedules.specs.Going.{Going, GoesOn}
+use Rattle.ooo_schedules.specs.Going.{ComesToEnd, Going, GoesOn, NoneDue}
 use Rattle.ooo_schedules.specs.Model.{In}
 use Rattle.ooo_schedules.specs.Program.{Program}
 use Rattle.ooo_schedules.specs.Sequence as steps
@@ -23,12 +25,16 @@ use Rattle.ooo_schedules.specs.Sequence.{Fires, NoStop, RunsTo, Sched, faults, g
 use Rattle.ooo_schedules.specs.Tables.{program}
 use Rattle.ooo_schedules.specs.Worlds as cycle
 use Rattle.ooo_dispatch.specs.Boards.{AreRules}
-use Rattle.ooo_dispatch.specs.Rules.{Rules, tables}
+use Rattle.ooo_dispatch.specs.Reports.{broken_at_last, has_stopped, history_after, last_stamp}
+use Rattle.ooo_dispatch.specs.Rules.{Rules, operations_of, tables}
 use Rattle.ooo_dispatch.specs.Scheduler.{AreMadeAs}
 use Rattle.ooo_dispatch.proofs.Acting.{Does}
-use Rattle.ooo_dispatch.proofs.Ending.{Least, active_source, all_late, pending_least}
+use Rattle.ooo_dispatch.proofs.Ending.{Least, active_source, all_late, due_least, due_source, pending_least}
+use Rattle.ooo_dispatch.proofs.Ends.{EndsAs, at_limit, by_break, by_idle, by_stop, by_time, last_is, last_made, last_whole}
+use Rattle.ooo_dispatch.proofs.Histories.{AreHistories}
+use Rattle.ooo_dispatch.proofs.Settling.{AlikeWorlds}
 use Rattle.ooo_dispatch.proofs.Finishing.{first_alike, first_world, later_next, later_world, moves}
-use Rattle.ooo_dispatch.proofs.Onward.{delta_next, goes_alike}
+use Rattle.ooo_dispatch.proofs.Onward.{delta_next, goes_alike, updated_histories}
 use Rattle.ooo_dispatch.proofs.Sequenced.{Broke, Turned, evaluated}
 use Rattle.ooo_dispatch.proofs.Turning.{Activation, Alike, ChangesTouched, ReadsTouched}
 
@@ -78,7 +84,7 @@ not_more m n e = ⊎_elim (λ k. omega (arith, k)) (λ k. ⊎_elim (λ lt. absur
 more : (m n : ℕ) → nat_lt m n ≡ true → m < n
 more m n e = ltb-true m n e
 
-module _ (r : Rules) (rules : AreRules r) (sound : IsSound r.design) (some : 0 < r.limits.deltas) (law : GoesOn (program (tables r))) (does : Does) (reads : ReadsTouched) (changes : ChangesTouched) where
+module _ (r : Rules) (rules : AreRules r) (sound : IsSound r.design) (some : 0 < r.limits.deltas) (law : GoesOn (program (tables r))) (comes : ComesToEnd (program (tables r))) (does : Does) (reads : ReadsTouched) (changes : ChangesTouched) where
   abbrev p : Program
   p = program (tables r)
 
@@ -93,26 +99,39 @@ module _ (r : Rules) (rules : AreRules r) (sound : IsSound r.design) (some : 0 <
     pub log : List Activation
     pub runs : RunsTo p s xs log
     pub made : AreMadeAs r result.made log
+    pub ends : EndsAs r log result.end
+    pub histories : AreHistories r result.histories (history_after r log)
 
   abbrev Goes : ℕ → Type 0
   Goes n =
       (w : World) (places : List Frame) (s : Sched) (xs : List Activation) → Alike r rules sound w places s xs → Going p s xs 0 → (result : Result) →
       run activate order r.limits n (state_of w places) ≡ Some result → Went s xs result
 
-  over_made : (w : World) (e : End) (result : Result) → Some (result_of w e) ≡ Some result → w.made ≡ result.made
-  over_made w e result k = let same : result_of w e ≡ result = cc in ap (λ x. x.made) same
+  -- where it is over in a world
+  over : (s : Sched) (xs : List Activation) (w : World) (e : End) (result : Result) (log : List Activation) → RunsTo p s xs log → AreMadeAs r w.made log → EndsAs r log e → AreHistories r w.histories (history_after r log) →
+      Some (result_of w e) ≡ Some result → Went s xs result
+  over s xs w e result log runs made ends histories k =
+      let same : result_of w e ≡ result = cc in subst (Went s xs) same (record { log = log; runs = runs; made = made; ends = ends; histories = histories })
+
+  -- the histories where no activation broke, and where the last one did
+  whole_after : (hs : List (List Entry)) (log : List Activation) → broken_at_last r log ≡ None → AreHistories r hs (λ c. whole_history (cycle_of (operations_of r log) c)) → AreHistories r hs (history_after r log)
+  whole_after hs log whole h = record {
+    count = h.count;
+    each = λ c lt. h.each c lt ∙ sym (ap (λ o. elim o [ Some e ↦ history_in (last_stamp log) (operations_of r log) c | None ↦ whole_history (cycle_of (operations_of r log) c) ]) whole);
+  }
+
+  broken_after : (hs : List (List Entry)) (log : List Activation) (e : End) → broken_at_last r log ≡ Some e → AreHistories r hs (λ c. history_in (last_stamp log) (operations_of r log) c) → AreHistories r hs (history_after r log)
+  broken_after hs log e is h = record {
+    count = h.count;
+    each = λ c lt. h.each c lt ∙ sym (ap (λ o. elim o [ Some f ↦ history_in (last_stamp log) (operations_of r log) c | None ↦ whole_history (cycle_of (operations_of r log) c) ]) is);
+  }
 
   broke : (s : Sched) (xs : List Activation) (st : State Frame) → Broke r rules sound law does reads changes 0 s xs st → (n : ℕ) (result : Result) →
       finish st.places (real.settle r.limits st.world) (run activate order r.limits n) ≡ Some result → Went s xs result
   unfolding real.settle
   broke s xs st b n result e =
-      record {
-        log = b.log;
-        runs = faults b.breaks;
-        made =
-            subst (λ ms. AreMadeAs r ms b.log)
-            (over_made st.world b.end result (ap (λ o. finish st.places (real.settle_at r.limits st.world o) (run activate order r.limits n)) (sym b.is) ∙ e)) b.made;
-      }
+      over s xs st.world b.ended.end result b.log (faults b.breaks) b.ended.made (by_break b.ended.end b.ended.ends) (broken_after st.world.histories b.log b.ended.end b.ended.ends b.ended.histories)
+      (ap (λ o. finish st.places (real.settle_at r.limits st.world o) (run activate order r.limits n)) (sym b.ended.broken) ∙ e)
 
   module _ (s : Sched) (xs : List Activation) (st : State Frame) (t : Turned r rules sound law does reads changes 0 s xs st) (n : ℕ) (rec : Goes n) (result : Result) where
     abbrev w : World
@@ -139,18 +158,34 @@ module _ (r : Rules) (rules : AreRules r) (sound : IsSound r.design) (some : 0 <
     none : (q : ℕ) → t.last.world.runnable q ≡ false
     none = law.idle t.last t.log t.going
 
-    made_first : (ms : AreMadeAs r w.made t.log) (e : End) → Some (result_of first e) ≡ Some result → AreMadeAs r result.made t.log
+    -- none of the activations broke
+    unbroken : broken_at_last r t.log ≡ None
+    unbroken = last_whole r t.log t.going.whole
+
+    histories : AreHistories r (real.longer_histories w.stamp w.channels w.histories) (history_after r t.log)
+    histories = whole_after (real.longer_histories w.stamp w.channels w.histories) t.log unbroken (updated_histories r rules sound w places t.last t.log t.alike none)
+
+    -- it is over after the update, or in the next delta cycle
+    over_updated : (e : End) → RunsTo p s xs t.log → EndsAs r t.log e → Some (result_of (real.update w) e) ≡ Some result → Went s xs result
+    unfolding real.update
+    over_updated e runs ends k = over s xs (real.update w) e result t.log runs t.alike.made ends histories k
+
+    over_first : (e : End) → RunsTo p s xs t.log → EndsAs r t.log e → Some (result_of first e) ≡ Some result → Went s xs result
     unfolding real.reach real.update
-    made_first ms e k = subst (λ ms. AreMadeAs r ms t.log) (over_made first e result k) ms
+    over_first e runs ends k = over s xs first e result t.log runs t.alike.made ends histories k
 
     -- sc_stop was called
     was_stopped : w.stopped ≡ true → Some (result_of (real.update w) (history.Stop w.stamp)) ≡ Some result → Went s xs result
-    unfolding real.update
     was_stopped is e =
-        let y = any_source p.stops t.log (sym t.alike.stopped ∙ is) in
-        record { log = t.log; runs = stopped t.last y.0 t.evaluates y.1 y.2; made = subst (λ ms. AreMadeAs r ms t.log) (over_made (real.update w) (history.Stop w.stamp) result e) t.alike.made }
+        let stops : has_stopped r t.log ≡ true = sym t.alike.stopped ∙ is in
+        let y = any_source p.stops t.log stops in
+        let at = last_is r t.log w.stamp t.alike.descend t.alike.past y.0 y.1 (t.going.calm y.0 y.1 y.2 ∙ t.alike.stamp) in
+        over_updated (history.Stop w.stamp) (stopped t.last y.0 t.evaluates y.1 y.2) (by_stop w.stamp unbroken stops at) e
 
     module _ (whole : w.stopped ≡ false) where
+      calm : has_stopped r t.log ≡ false
+      calm = sym t.alike.stopped ∙ whole
+
       no_stop : NoStop p t.log
       no_stop y i = none_any p.stops t.log (sym t.alike.stopped ∙ whole) y i
 
@@ -165,16 +200,20 @@ module _ (r : Rules) (rules : AreRules r) (sound : IsSound r.design) (some : 0 <
           woken : fired.runnable q ≡ true
           woken = (first_alike r rules sound w places t.last t.log t.alike none).runnable q ∙ on
 
+          within : nd.time.0 ≤ p.stop.0
+          within = subst (λ u. u.time.0 ≤ p.stop.0) t.alike.stamp t.going.within
+
           at : (b : Bool) → (nd.delta == r.limits.deltas) ≡ b → finish places (if b then real.Over first (history.Deltas first.stamp) else real.Goes first) go ≡ Some result → Went s xs result
           at true is k =
-              record { log = t.log; runs = limited t.last updated nd q t.evaluates no_stop no_more next (eqb-true nd.delta r.limits.deltas is) woken; made = made_first t.alike.made (history.Deltas first.stamp) k }
+              let limit = eqb-true nd.delta r.limits.deltas is in
+              over_first (history.Deltas nd) (limited t.last updated nd q t.evaluates no_stop no_more next limit woken)
+              (at_limit nd unbroken calm (comes.limits t.last t.log updated nd t.going no_stop no_more next within limit q woken)) k
           at false is k =
               let below : nd.delta ≡ p.limit → ⊥ = eqb-false nd.delta r.limits.deltas is in
-              let within : nd.time.0 ≤ p.stop.0 = subst (λ u. u.time.0 ≤ p.stop.0) t.alike.stamp t.going.within in
               let alike = goes_alike r rules sound w places t.last t.log t.alike none updated first nd (first_world r rules sound w places t.last t.log t.alike none) in
               let going = law.moves t.last t.log updated nd t.going no_stop no_more next within below in
               let rest = rec first places (next_cycle p t.last updated nd) t.log alike going result k in
-              record { log = rest.log; runs = goes t.last updated nd t.log t.evaluates no_stop no_more next within below rest.runs; made = rest.made }
+              record { log = rest.log; runs = goes t.last updated nd t.log t.evaluates no_stop no_more next within below rest.runs; made = rest.made; ends = rest.ends; histories = rest.histories }
 
       -- nobody is runnable there
       module _ (off : (q : ℕ) → (wait_at first.waits q).runnable ≡ false) where
@@ -184,9 +223,27 @@ module _ (r : Rules) (rules : AreRules r) (sound : IsSound r.design) (some : 0 <
         fires : Fires updated fired
         fires = unheard nd next idle no_more
 
-        is_late : ((u : Stamp) → Least (real.least_activity first) u → u.time.0 ≤ r.limits.stop.0 → ⊥) → (e : End) → Some (result_of first e) ≡ Some result → Went s xs result
-        is_late all e k =
-            record { log = t.log; runs = late t.last fired t.evaluates no_stop fires (all_late r.limits.stop first fired (first_alike r rules sound w places t.last t.log t.alike none) idle all); made = made_first t.alike.made e k }
+        first_is : AlikeWorlds first fired
+        first_is = first_alike r rules sound w places t.last t.log t.alike none
+
+        is_late : ((u : Stamp) → Least (real.least_activity first) u → u.time.0 ≤ r.limits.stop.0 → ⊥) → RunsTo p s xs t.log
+        is_late all = late t.last fired t.evaluates no_stop fires (all_late r.limits.stop first fired first_is idle all)
+
+        -- nobody will run again
+        is_idle : real.least_activity first ≡ None → Some (result_of first (history.Idle (real.last_stamp first.made))) ≡ Some result → Went s xs result
+        unfolding real.reach real.update
+        is_idle is k =
+            let nothing : NoneDue fired = (λ q u due. subst (λ o. Least o u) is (due_least first fired first_is idle q u due)) in
+            over_first (history.Idle (real.last_stamp w.made)) (is_late (λ u l le. subst (λ o. Least o u) is l))
+            (by_idle (real.last_stamp w.made) unbroken calm (comes.idles t.last t.log fired t.going no_stop fires nothing) (last_made r w.made t.log t.alike.made)) k
+
+        -- only after the stop time
+        is_after : (act : Stamp) → real.least_activity first ≡ Some act → r.limits.stop.0 < act.time.0 → Some (result_of first (history.Time r.limits.stop)) ≡ Some result → Went s xs result
+        is_after act is lt k =
+            let none_before : (u : Stamp) → Least (real.least_activity first) u → u.time.0 ≤ r.limits.stop.0 → ⊥ = (λ u l le. subst (λ o. Least o u) is l (inl (omega (arith, lt, le)))) in
+            let due = due_source first fired first_is idle act is in
+            over_first (history.Time r.limits.stop) (is_late none_before)
+            (by_time unbroken calm (comes.lates t.last t.log fired t.going no_stop fires (all_late r.limits.stop first fired first_is idle none_before) due.0 act due.1)) k
 
         time_moves : (act u : Stamp) → real.least_activity first ≡ Some act → act.time.0 ≤ r.limits.stop.0 → real.least_pending first ≡ Some u → go (state_of (real.reach u first) places) ≡ Some result → Went s xs result
         time_moves act u active within_act is k =
@@ -198,13 +255,13 @@ module _ (r : Rules) (rules : AreRules r) (sound : IsSound r.design) (some : 0 <
             let alike = goes_alike r rules sound w places t.last t.log t.alike none fired (real.reach u first) u (later_world r rules sound w places t.last t.log t.alike none idle u is) in
             let going = law.moves t.last t.log fired u t.going no_stop fires later within below in
             let rest = rec (real.reach u first) places (next_cycle p t.last fired u) t.log alike going result k in
-            record { log = rest.log; runs = goes t.last fired u t.log t.evaluates no_stop fires later within below rest.runs; made = rest.made }
+            record { log = rest.log; runs = goes t.last fired u t.log t.evaluates no_stop fires later within below rest.runs; made = rest.made; ends = rest.ends; histories = rest.histories }
           where
             earlier : (a u : Stamp) → (IsBefore a u → ⊥) → a.time.0 ≤ r.limits.stop.0 → u.time.0 ≤ r.limits.stop.0
             earlier a u n le = ⊎_elim (λ k. omega (arith, k, le)) (λ k. ⊎_elim (λ lt. absurd (n (inl lt))) (λ gt. omega (arith, gt, le)) k) (cases_order a.time.0 u.time.0)
 
         later : (o : Option Stamp) → real.least_activity first ≡ o → finish places (real.later r.limits first o) go ≡ Some result → Went s xs result
-        later None is e = is_late (λ u l k. subst (λ o. Least o u) is l) (history.Idle (real.last_stamp first.made)) e
+        later None is e = is_idle is e
         later (Some act) is e = at (nat_lt r.limits.stop.0 act.time.0) refl e
           where
             advance : (o : Option Stamp) → real.least_pending first ≡ o → act.time.0 ≤ r.limits.stop.0 → finish places (real.advance first o) go ≡ Some result → Went s xs result
@@ -212,7 +269,7 @@ module _ (r : Rules) (rules : AreRules r) (sound : IsSound r.design) (some : 0 <
             advance (Some u) i le k = time_moves act u is le i k
 
             at : (b : Bool) → nat_lt r.limits.stop.0 act.time.0 ≡ b → finish places (if b then real.Over first (history.Time r.limits.stop) else real.advance first (real.least_pending first)) go ≡ Some result → Went s xs result
-            at true b k = is_late (λ u l le. let lt = more r.limits.stop.0 act.time.0 b in subst (λ o. Least o u) is l (inl (omega (arith, lt, le)))) (history.Time r.limits.stop) k
+            at true b k = is_after act is (more r.limits.stop.0 act.time.0 b) k
             at false b k = advance (real.least_pending first) refl (not_more r.limits.stop.0 act.time.0 b) k
 
       notified : finish places (real.notified r.limits first) go ≡ Some result → Went s xs result

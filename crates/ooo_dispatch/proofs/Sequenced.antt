@@ -19,10 +19,9 @@ use Rattle.ooo_schedules.specs.Sequence.{Breaks, Evaluates, Sched, after_act, en
 use Rattle.ooo_schedules.specs.Tables.{program}
 use Rattle.ooo_dispatch.specs.Boards.{AreRules}
 use Rattle.ooo_dispatch.specs.Rules.{Rules, tables}
-use Rattle.ooo_dispatch.specs.Scheduler.{AreMadeAs}
 use Rattle.ooo_dispatch.proofs.Accessed.{element}
 use Rattle.ooo_dispatch.proofs.Acting.{Does}
-use Rattle.ooo_dispatch.proofs.Turning.{Activation, Alike, ChangesTouched, ReadsTouched, broken_turned, turned}
+use Rattle.ooo_dispatch.proofs.Turning.{Activation, Alike, ChangesTouched, IsEnded, ReadsTouched, broken_turned, turned}
 
 -- where a run is broken, no process has a turn
 no_turn : (activate : Activate Frame) (w : World) (places : List Frame) (e : End) → w.broken ≡ Some e → (q : ℕ) → turn activate (state_of w places) q ≡ state_of w places
@@ -74,9 +73,7 @@ module _ (r : Rules) (rules : AreRules r) (sound : IsSound r.design) (law : Goes
   pub record Broke (q : ℕ) (s : Sched) (xs : List Activation) (st : State Frame) : Type 0 where
     pub log : List Activation
     pub breaks : Breaks p q s xs log
-    pub made : AreMadeAs r st.world.made log
-    pub end : End
-    pub is : st.world.broken ≡ Some end
+    pub ended : IsEnded r rules sound st.world log
 
   abbrev Ended : ℕ → Sched → List Activation → State Frame → Type 0
   Ended q s xs st = Turned q s xs st ⊎ Broke q s xs st
@@ -107,7 +104,7 @@ module _ (r : Rules) (rules : AreRules r) (sound : IsSound r.design) (law : Goes
       by false off skip take =
           subst (Ended q s xs) (sym (ap (λ st. fold (turn activate) st (numbers_from (q + 1) m)) (sleeps activate w places q (sym (a.runnable q) ∙ off)) ∙ ap (fold (turn activate) (state_of w places)) same_order))
           (⊎_elim (λ t. inl (record { last = t.last; log = t.log; evaluates = skips off t.evaluates; alike = t.alike; going = t.going }))
-          (λ b. inr (record { log = b.log; breaks = skip_on off b.breaks; made = b.made; end = b.end; is = b.is })) (skip off))
+          (λ b. inr (record { log = b.log; breaks = skip_on off b.breaks; ended = b.ended })) (skip off))
       by true on skip take =
           subst (Ended q s xs) (sym (ap (λ st. fold (turn activate) st (numbers_from (q + 1) m)) (runs activate w places q k a.broken (sym (a.runnable q) ∙ on) is) ∙ ap (fold (turn activate) after) same_order)) (broken (p.breaks x) refl)
         where
@@ -132,8 +129,8 @@ module _ (r : Rules) (rules : AreRules r) (sound : IsSound r.design) (law : Goes
           broken : (b : Bool) → p.breaks x ≡ b → Ended q s xs (fold (turn activate) after (numbers_from (suc q) m))
           broken false whole =
               ⊎_elim (λ t. inl (record { last = t.last; log = t.log; evaluates = takes tk.front on tk.is whole t.evaluates; alike = t.alike; going = t.going }))
-              (λ b. inr (record { log = b.log; breaks = take_on tk.front on tk.is whole b.breaks; made = b.made; end = b.end; is = b.is })) (take tk k is whole)
+              (λ b. inr (record { log = b.log; breaks = take_on tk.front on tk.is whole b.breaks; ended = b.ended })) (take tk k is whole)
           broken true breaks =
               let t = broken_turned r rules sound does reads changes w places s xs q a tk k is breaks in
-              subst (Ended q s xs) (sym (still activate after.world after.places t.0 t.1 (numbers_from (suc q) m)))
-              (inr (record { log = x ∷ xs; breaks = here tk.front on tk.is breaks; made = t.2; end = t.0; is = t.1 }))
+              subst (Ended q s xs) (sym (still activate after.world after.places t.end t.broken (numbers_from (suc q) m)))
+              (inr (record { log = x ∷ xs; breaks = here tk.front on tk.is breaks; ended = t }))

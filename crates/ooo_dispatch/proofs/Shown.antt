@@ -57,11 +57,11 @@ moved_none s c (f ∷ fs) x none = ap (moved s c fs) (step_off s c f x (off (is_
     off true e = absurd (none f (inl refl) e)
     off false e = refl
 
-abbrev next_cycle : Stamp → Cycle → Cycle
+abbrev pub next_cycle : Stamp → Cycle → Cycle
 next_cycle s x = record { stamp = s; channel = later_channel s x; history = x.history ++ entries_of x.stamp x.channel }
 
 -- the cycle of a stamp, once it is there
-here_now : (s : Stamp) (x : Cycle) → is_before (cycle_at s x).stamp s ≡ false
+pub here_now : (s : Stamp) (x : Cycle) → is_before (cycle_at s x).stamp s ≡ false
 here_now s x = at (is_before x.stamp s) refl
   where
     at : (b : Bool) → is_before x.stamp s ≡ b → is_before (let y : Cycle = if b then next_cycle s x else x in y.stamp) s ≡ false

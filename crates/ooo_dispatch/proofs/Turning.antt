@@ -28,7 +28,8 @@ use Rattle.ooo_events.specs.Slots.{Nothing, due_of}
 use Rattle.ooo_meaning.specs.World.{Made, Wait, World, apply_all, broken_by, channel_at, place_of, slot_at, view_of, wait_after, wait_at}
 use Rattle.ooo_meaning.specs.Runs.{holder_of, holds_reading, holds_writing}
 use Rattle.ooo_channels.specs.Agreement.{AreAlike, IsAhead}
-use Rattle.ooo_channels.specs.Cycles.{channel_in, cycle_of}
+use Rattle.ooo_channels.specs.Agreement.{history_at}
+use Rattle.ooo_channels.specs.Cycles.{channel_in, cycle_of, history_in}
 use Rattle.ooo_channels.specs.Calls.{channel_of}
 use Rattle.ooo_schedules.specs.Design as steps
 use Rattle.ooo_schedules.specs.Design.{model, only, sort}
@@ -41,7 +42,10 @@ use Rattle.ooo_dispatch.specs.declared.reads.Reads as job
 use Rattle.ooo_dispatch.specs.Boards.{AreRules}
 use Rattle.ooo_dispatch.specs.Enough.{Descend}
 use Rattle.ooo_dispatch.specs.Rules.{Rules, access_of, cells_after, deed_of, has, operations_of, origin_of, outcome_of, process_of, segment_at, slots_after, tables}
+use Rattle.ooo_dispatch.specs.Reports.{broken_at_last, last_stamp}
 use Rattle.ooo_dispatch.specs.Scheduler.{AreMadeAs}
+use Rattle.ooo_dispatch.proofs.Histories.{AreHistories, kept_histories, moved_history}
+use Rattle.ooo_schedules.specs.Delays.{NotAfter}
 use Rattle.ooo_dispatch.proofs.Asked.{AskedAs}
 use Rattle.ooo_dispatch.proofs.Viewed.{HeldBy, IsWorldOf}
 use Rattle.ooo_time.specs.declared.stamp.Place.{Place}
@@ -133,12 +137,22 @@ module _ (r : Rules) (rules : AreRules r) (sound : IsSound r.design) where
     -- variables and channels
     pub world : IsWorldOf r rules sound w xs
     pub by : (c : ℕ) → IsBefore w.stamp (cycle_of (operations_of r xs) c).stamp → ⊥
+    pub histories : AreHistories r w.histories (λ c. history_in w.stamp (operations_of r xs) c)
     -- places, and the log
     pub places_count : length places ≡ length r.design.processes
     pub placed : (q : ℕ) (k : Frame) → slice_get places q ≡ Some k → IsPlacedAt q k xs
     pub sorted : sort (design (program (tables r))) xs ≡ xs
     pub descend : Descend r xs
+    pub past : (y : Activation) → In y xs → NotAfter y.stamp w.stamp
     pub made : AreMadeAs r w.made xs
+
+  -- an activation ended the run: how, and what there is then
+  pub record IsEnded (w : World) (xs : List Activation) : Type 0 where
+    pub end : End
+    pub broken : w.broken ≡ Some end
+    pub ends : broken_at_last r xs ≡ Some end
+    pub made : AreMadeAs r w.made xs
+    pub histories : AreHistories r w.histories (λ c. history_in (last_stamp xs) (operations_of r xs) c)
 
 -- ---- what effects leave of a world
 
@@ -182,7 +196,7 @@ stop_called w (effect.Notify e k ∷ fs) = stop_called (apply w (effect.Notify e
 stop_called w (effect.Cancel e ∷ fs) = stop_called (apply w (effect.Cancel e)) fs
 stop_called w (effect.Stop ∷ fs) = stop_called (apply w effect.Stop) fs ∙ or_yes (list_any is_stop fs)
 
-broken_is : (at : Place) (e : JobEnd) → breaks_by e ≡ false → broken_by at e ≡ None
+pub broken_is : (at : Place) (e : JobEnd) → breaks_by e ≡ false → broken_by at e ≡ None
 broken_is at (end.Waits on) h = refl
 broken_is at end.Ended h = refl
 broken_is at (end.Faulted f line) h = absurd (let c : true ≡ false = h in cc)
@@ -480,6 +494,18 @@ module _ (r : Rules) (rules : AreRules r) (sound : IsSound r.design) (does : Doe
             ∙ at_moved w.stamp c (deed_of r x).effects (cycle_of (operations_of r xs) c)
             ∙ ap (λ es. acted_all c es (channel_in w.stamp (operations_of r xs) c)) (sym effects_are)
 
+    -- the cycle of a channel in the log, at the present stamp
+    cycle_turned : (c : ℕ) → cycle_of (operations_of r (x ∷ xs)) c ≡ moved w.stamp c (deed_of r x).effects (cycle_of (operations_of r xs) c)
+    cycle_turned c = cycle_moved f.stamp (operations_of r xs) (deed_of r x).effects c ∙ ap (λ t. moved t c (deed_of r x).effects (cycle_of (operations_of r xs) c)) now
+
+    histories_turned : AreHistories r (apply_all w fs).histories (λ c. history_in w.stamp (operations_of r (x ∷ xs)) c)
+    histories_turned = record {
+      count = ap length (kept_histories w fs) ∙ a.histories.count;
+      each = λ c lt.
+          ap (λ hs. history_at hs c) (kept_histories w fs) ∙ a.histories.each c lt
+          ∙ sym (ap (λ y. (cycle_at w.stamp y).history) (cycle_turned c) ∙ moved_history w.stamp c (deed_of r x).effects (cycle_of (operations_of r xs) c));
+    }
+
     by_turned : (c : ℕ) → IsBefore w.stamp (cycle_of (operations_of r (x ∷ xs)) c).stamp → ⊥
     by_turned c =
         subst (λ y. IsBefore w.stamp y.stamp → ⊥) (sym (cycle_moved f.stamp (operations_of r xs) (deed_of r x).effects c ∙ ap (λ t. moved t c (deed_of r x).effects (cycle_of (operations_of r xs) c)) now))
@@ -614,6 +640,9 @@ module _ (r : Rules) (rules : AreRules r) (sound : IsSound r.design) (does : Doe
     sorted_turned : sort (design p) (x ∷ xs) ≡ x ∷ xs
     sorted_turned = tk.sorted ∙ ap (λ ys. x ∷ ys) a.sorted
 
+    past_turned : (y : Activation) → In y (x ∷ xs) → NotAfter y.stamp w.stamp
+    past_turned y i = ⊎_elim (λ e. inr (ap (λ z. z.stamp) e ∙ now)) (λ j. a.past y j) i
+
     pub turned : p.breaks x ≡ false → Alike r rules sound w' (slice_set places q o.next) (after_act p s q x) (x ∷ xs)
     unfolding after_deed
     turned whole =
@@ -634,17 +663,27 @@ module _ (r : Rules) (rules : AreRules r) (sound : IsSound r.design) (does : Doe
           asked = asked_turned;
           world = world_turned;
           by = λ c lt. by_turned c (subst (λ t. IsBefore t (cycle_of (operations_of r (x ∷ xs)) c).stamp) (kept_stamp w fs) lt);
+          histories = subst (λ t. AreHistories r (apply_all w fs).histories (λ c. history_in t (operations_of r (x ∷ xs)) c)) (sym (kept_stamp w fs)) histories_turned;
           places_count = length-set places q o.next ∙ a.places_count;
           placed = place_turned;
           sorted = sorted_turned;
           descend = descend_turned;
+          past = λ y i. subst (NotAfter y.stamp) (sym (kept_stamp w fs)) (past_turned y i);
           made = made_turned;
         }
 
     -- one that ends the run
-    pub broken_turned : p.breaks x ≡ true → (z : End) × (w'.broken ≡ Some z) × AreMadeAs r w'.made (x ∷ xs)
+    pub broken_turned : p.breaks x ≡ true → IsEnded r rules sound w' (x ∷ xs)
     unfolding after_deed
-    broken_turned breaks = let b = broken_some (place_of w.stamp q) o.deed.end (ap breaks_by did.end ∙ breaks) in (b.0, b.1, made_turned)
+    broken_turned breaks =
+        let b = broken_some (place_of w.stamp q) o.deed.end (ap breaks_by did.end ∙ breaks) in
+        record {
+          end = b.0;
+          broken = b.1;
+          ends = ap (λ t. broken_by (place_of t q) (outcome_of r x).deed.end) now ∙ ap (broken_by (place_of w.stamp q)) (sym did.end) ∙ b.1;
+          made = made_turned;
+          histories = subst (λ t. AreHistories r (apply_all w fs).histories (λ c. history_in t (operations_of r (x ∷ xs)) c)) (sym now) histories_turned;
+        }
 
 -- the channel of a channel's event is there
 pub channel_there : (r : Rules) (rules : AreRules r) (sound : IsSound r.design) (w : World) (places : List Frame) (s : Sched) (xs : List Activation) → Alike r rules sound w places s xs → (e : ℕ) (b : BoundEvent) → slice_get r.design.events e ≡ Some b → b ≢ event.Own → channel_of b < length w.channels

@@ -2,3 +2,4 @@ pub mod Rules
 pub mod Boards
 pub mod Enough
 pub mod Scheduler
+pub mod Reports

@@ -1,6 +1,6 @@
 //! What holds of the definitions: functions that do nothing, whose clauses are laws.
 
-ghost use Rattle.std.specs.Prelude.{◌≡◌, ℕ, ◌<◌, List, [], Option, Some, slice_get};
+ghost use Rattle.std.specs.Prelude.{◌≡◌, ℕ, ◌+◌, ◌*◌, ◌<◌, ◌≤◌, ◌⊎◌, List, [], Option, Some, slice_get};
 ghost use Rattle.ooo_time.specs.declared.stamp.Stamp.{Stamp as StampSpec};
 ghost use Rattle.ooo_code.specs.declared.design.Proc.{Proc as ProcSpec};
 ghost use Rattle.ooo_code.specs.declared.segment.Segment.{Segment as SegmentSpec};
@@ -11,9 +11,9 @@ ghost use Rattle.ooo_code.specs.Outcomes.{View};
 ghost use Rattle.ooo_code.specs.Segments.{Accesses};
 ghost use Rattle.ooo_code.specs.Sound.{IsSound};
 ghost use Rattle.ooo_schedules.specs.Design.{only};
-ghost use Rattle.ooo_schedules.specs.Model.{Act, Front, In, committed, dispatched};
+ghost use Rattle.ooo_schedules.specs.Model.{Act, Front, In, committed, count, dispatched};
 ghost use Rattle.ooo_schedules.specs.Program.{Sound, sees};
-ghost use Rattle.ooo_meaning.specs.Runs.{IsSequentialRun};
+ghost use Rattle.ooo_meaning.specs.Runs.{IsSequentialRun, Shows as ShowsRun};
 ghost use Rattle.ooo_meaning.specs.Sequence.{Result};
 ghost use Rattle.ooo_schedules.specs.Sequence.{RunsTo, Starts, begin};
 ghost use Rattle.ooo_schedules.specs.Tables.{EveryScheduleOf, program};
@@ -21,7 +21,8 @@ ghost use Rattle.ooo_dispatch.specs.declared.reads.Reads.{Reads as ReadsSpec};
 ghost use Rattle.ooo_dispatch.specs.Enough.{ComeBefore, Descend, Shows};
 ghost use Rattle.ooo_dispatch.specs.Rules.{Rules, reads_at, tables, view_at};
 ghost use Rattle.ooo_dispatch.specs.Scheduler.{AgreesWith, AreMadeAs};
-ghost use Rattle.ooo_dispatch.specs.Boards.{AreRules, Board, IsAllowed, IsLawful, model};
+ghost use Rattle.ooo_dispatch.specs.Boards.{AreRules, Board, IsAllowed, IsLawful, IsOverBoard, model};
+ghost use Rattle.ooo_dispatch.specs.Reports.{run_of_board};
 
 use crate::reads::Reads;
 
@@ -50,6 +51,26 @@ pub fn tables_are_sound()
 pub fn processes_start()
     ensures { (r : Rules) → AreRules r → 0 < r.limits.deltas → Starts (program (tables r)) }
 {}
+
+/// A lawful board goes on until it is over, but not for ever. Where no job is out, it is over, or some process is allowed. No
+/// process is committed more often than there are delta cycles, below the limit at each time, up to the stop time. And there
+/// is a lawful board that is over: that of the sequential run.
+pub fn boards_go_on()
+    ensures never_stuck { (r : Rules) (b : Board r) → AreRules r → IsSound r.design →
+        0 < r.limits.deltas → IsLawful r b → b.out ≡ [] →
+        IsOverBoard r b ⊎ ((p : ℕ) × (f : Front StampSpec) × IsAllowed r b p f) }
+    ensures not_for_ever { (r : Rules) (b : Board r) → AreRules r → IsSound r.design →
+        0 < r.limits.deltas → IsLawful r b →
+        (p : ℕ) → count p b.log ≤ (r.limits.stop.0 + 1) * r.limits.deltas }
+    ensures comes_to_end { (r : Rules) → AreRules r → IsSound r.design → 0 < r.limits.deltas →
+        (b : Board r) × IsLawful r b × IsOverBoard r b }
+{
+    ooo_meaning::law::every_design_runs();
+    scheduler_makes_steps();
+    tables_are_sound();
+    processes_start();
+    ooo_schedules::law::every_board::<Reads>();
+}
 
 /// Every lawful schedule of a sound design makes the activations of its sequential run alike, or activations beyond all of
 /// it; and the rest of the theorem on schedules.
@@ -99,6 +120,7 @@ pub fn scheduler_makes_steps()
     tables_are_sound();
     processes_start();
     ooo_schedules::law::every_step::<Reads>();
+    ooo_schedules::law::every_ending::<Reads>();
 }
 
 /// Whatever lawful steps lead to a board, its jobs are the activations of the sequential run, as far as that goes; and once
@@ -110,4 +132,21 @@ pub fn every_board_agrees()
 {
     scheduler_makes_steps();
     every_schedule();
+}
+
+/// Whatever lawful steps lead to a board that is over, the run that is read off it is the sequential run: it has its
+/// histories, its ending and the number of its activations, and its pieces joined are its output.
+pub fn every_board_reports()
+    ensures { (r : Rules) (result : Result) (b : Board r) → AreRules r → IsSound r.design →
+        0 < r.limits.deltas → IsSequentialRun r.design r.limits result → IsLawful r b →
+        IsOverBoard r b → ShowsRun (run_of_board r b) result }
+{
+    ooo_code::law::does_as_said();
+    ooo_code::law::reads_what_is_touched();
+    ooo_code::law::changes_what_is_touched();
+    tables_are_sound();
+    processes_start();
+    ooo_schedules::law::every_step::<Reads>();
+    ooo_schedules::law::every_ending::<Reads>();
+    ooo_schedules::law::every_report::<Reads>();
 }

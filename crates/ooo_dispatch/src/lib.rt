@@ -4,11 +4,12 @@
 //! `specs/Rules` says what a design is to the rule of out-of-order simulation: its segments, what they touch, which clash
 //! and which follow which, and what an activation reads and does, as a function of the activations before it.
 //! `specs/Boards` says with that what a board is, when a process is allowed, which boards lawful steps lead to, and when
-//! one is over.
+//! one is over. `specs/Reports` has the run that is read off a board that is over.
 //!
 //! Proved, in module [`law`]: that the edges, accesses and clashes of a sound design say of its activations what the theorem
-//! on schedules (of ooo_schedules) asks, and so that theorem for designs; and that the sequential run of a design makes the
-//! steps of the run of which the theorem speaks.
+//! on schedules (of ooo_schedules) asks, and so that theorem for designs; that the sequential run of a design makes the
+//! steps of the run of which the theorem speaks; that a lawful board goes on until it is over, but not for ever; and that the
+//! run read off a board that is over is that sequential run.
 #![tactic(auto)]
 
 pub mod law;

@@ -17,3 +17,5 @@ pub mod Updates
 pub mod Sequence
 pub mod Endings
 pub mod Finals
+pub mod Reports
+pub mod Boards

@@ -148,9 +148,9 @@ calling_touches c s e (event.Taken d) old es i = (in_when c (has_taken d es) s i
 
 -- where a notification comes from
 pub record FromEffect (s : Stamp) (e : ℕ) (es : List Effect) (u : Stamp) : Type 0 where
-  time : Time
-  is_in : In (effect.Notify e time) es
-  stamp : u ≡ stamp_after s time
+  pub time : Time
+  pub is_in : In (effect.Notify e time) es
+  pub stamp : u ≡ stamp_after s time
 
 from_more : (s : Stamp) (e : ℕ) (x : Effect) (es : List Effect) (u : Stamp) → FromEffect s e es u → FromEffect s e (x ∷ es) u
 from_more s e x es u f = record { time = f.time; is_in = inr f.is_in; stamp = f.stamp }
@@ -158,7 +158,7 @@ from_more s e x es u f = record { time = f.time; is_in = inr f.is_in; stamp = f.
 notify_is : (u t : Stamp) → Notify u ≡ Notify t → u ≡ t
 notify_is u t e = cc
 
-own_source : (s : Stamp) (e : ℕ) (u : Stamp) (cs : List (Call Stamp)) (es : List Effect) → In (Notify u) (own_calls s e cs es) → In (Notify u) cs ⊎ FromEffect s e es u
+pub own_source : (s : Stamp) (e : ℕ) (u : Stamp) (cs : List (Call Stamp)) (es : List Effect) → In (Notify u) (own_calls s e cs es) → In (Notify u) cs ⊎ FromEffect s e es u
 own_source s e u cs [] i = inl i
 own_source s e u cs (effect.Notify f k ∷ es) i =
     let rec = own_source s e u (if f == e then Notify (stamp_after s k) ∷ cs else cs) es i in
@@ -179,7 +179,7 @@ own_source s e u cs (effect.Put c v ∷ es) i = ⊎_elim (λ j. inl j) (λ h. in
 own_source s e u cs (effect.Take c ∷ es) i = ⊎_elim (λ j. inl j) (λ h. inr (from_more s e (effect.Take c) es u h)) (own_source s e u cs es i)
 own_source s e u cs (effect.Stop ∷ es) i = ⊎_elim (λ j. inl j) (λ h. inr (from_more s e effect.Stop es u h)) (own_source s e u cs es i)
 
-channel_source : (s : Stamp) (e : ℕ) (o : BoundEvent) (old : Value) (es : List Effect) (u : Stamp) → o ≢ event.Own → In (Notify u) (calls_of s e o old es) → u ≡ next_delta s
+pub channel_source : (s : Stamp) (e : ℕ) (o : BoundEvent) (old : Value) (es : List Effect) (u : Stamp) → o ≢ event.Own → In (Notify u) (calls_of s e o old es) → u ≡ next_delta s
 channel_source s e event.Own old es u n i = absurd (n refl)
 channel_source s e (event.Changed c) old es u n i = notify_is u (next_delta s) (in_changed (Notify u) s any_value old (requested c None es) i).1
 channel_source s e (event.Rise c) old es u n i = notify_is u (next_delta s) (in_changed (Notify u) s rises old (requested c None es) i).1
@@ -213,7 +213,7 @@ left_is s (Waits n t es) w e =
     record { next = n; time = t; events = es; is = refl; segment = sym (ap (λ x. x.segment) k); timeout = sym (ap (λ x. x.timeout) k); waits = sym (ap (λ x. x.events) k); since = sym (ap (λ x. x.since) k) }
 left_is s Ended w e = absurd cc
 
-time_out_is : (s : Stamp) (o : Option Time) (t : Stamp) → time_out s o ≡ Some t → (k : Time) × (o ≡ Some k) × (t ≡ stamp_after s k)
+pub time_out_is : (s : Stamp) (o : Option Time) (t : Stamp) → time_out s o ≡ Some t → (k : Time) × (o ≡ Some k) × (t ≡ stamp_after s k)
 time_out_is s None t e = absurd cc
 time_out_is s (Some k) t e = (k, refl, sym (some_is (stamp_after s k) t e))
 

@@ -134,7 +134,7 @@ module _ (S : Type 0) (before : S → S → Type 0) (is_before : S → S → Boo
     abbrev E : Event S → Event S
     E e = settled S is_before at e.fired e.pending
 
-    call_source : (c : Call S) (e : Event S) (u : S) → In u (All_of (call_at S is_before at c e)) → In u (All_of e) ⊎ (Notify u ≡ c)
+    pub call_source : (c : Call S) (e : Event S) (u : S) → In u (All_of (call_at S is_before at c e)) → In u (All_of e) ⊎ (Notify u ≡ c)
     call_source c e u i = ⊎_elim (λ j. inl (subst (In u) (settle_same at e.fired e.pending) j)) (λ k. inr k) (called_source c (E e) u i)
 
     -- what is new after a call is later

@@ -10,4 +10,6 @@ pub mod Updates
 pub mod Sequence
 pub mod Endings
 pub mod Going
+pub mod Reports
+pub mod Boards
 pub mod Example

@@ -1,7 +1,9 @@
 //! The laws: functions that do nothing, whose clauses are the laws.
 
+ghost use Rattle.ooo_schedules.specs.Boards.{EveryBoard};
 ghost use Rattle.ooo_schedules.specs.Example.{ExampleMet};
 ghost use Rattle.ooo_schedules.specs.Going.{EveryEnding, EveryStep};
+ghost use Rattle.ooo_schedules.specs.Reports.{EveryReport};
 ghost use Rattle.ooo_schedules.specs.Tables.{EverySchedule};
 
 /// Of a program whose access and edges are sound, each lawful schedule makes the activations of the sequential run alike
@@ -21,6 +23,20 @@ pub fn every_step<R>()
 /// time, and at the limit of deltas where a process is to run there.
 pub fn every_ending<R>()
     ensures { EveryEnding R }
+{}
+
+/// What a board that is over reports can be read off its log and its fronts: the activations that no other one cuts off and
+/// that stand below the limit of deltas are those of the sequential run, in their order; and the board's next stamp is the
+/// one after which the run ends.
+pub fn every_report<R>()
+    ensures { EveryReport R }
+{}
+
+/// A board to which lawful steps lead goes on until it is over: where no job is out, it is over or some process is allowed;
+/// no process is committed more often than there are stamps below the limits; and the sequential run is made by lawful steps,
+/// after which the board is over.
+pub fn every_board<R>()
+    ensures { EveryBoard R }
 {}
 
 /// There is a program of which the law speaks.

@@ -8,8 +8,10 @@
 //! `specs/Sequence` the sequential scheduler (`RunsTo`), `specs/Tables` the theorem in nine parts.
 //!
 //! Proved, in module [`law`]: the theorem ([`law::every_schedule`]), how the sequential run goes on from turn to turn and
-//! ends, for schedulers that make the same steps ([`law::every_step`], [`law::every_ending`], `specs/Going`), and that the
-//! theorem speaks of something ([`law::example_is_sound`]).
+//! ends, for schedulers that make the same steps ([`law::every_step`], [`law::every_ending`], `specs/Going`), what of a board
+//! that is over is the run and when it would go on ([`law::every_report`], `specs/Reports`), that a board goes on until it is
+//! over, but not for ever ([`law::every_board`], `specs/Boards`), and that the theorem speaks of something
+//! ([`law::example_is_sound`]).
 #![tactic(auto)]
 
 pub mod law;
