@@ -38,3 +38,9 @@ pub mod Finishing
 pub mod Ends
 pub mod Running
 pub mod Beginning
+pub mod Taking
+pub mod Walks
+pub mod Allowed
+pub mod Leads
+pub mod Schedules
+pub mod Worked

@@ -401,10 +401,14 @@ module _ (r : Rules) (rules : AreRules r) (sound : IsSound r.design) (does : Doe
         ∙ ap (λ e. by_nodes r.design r.limits.statements q (record { entry = e; slots = slots_after r q (last q xs) }) (view_at f.stamp x.reads)) entry_is
         ∙ ap (λ vs. by_nodes r.design r.limits.statements q (record { entry = k.entry; slots = vs }) (view_at f.stamp x.reads)) (sym placed.slots)
 
+    -- it sees of all that its segment touches what the job reads
+    agrees : AgreeOn (Accesses r.design process k.entry) (view_of q w) (view_at f.stamp x.reads)
+    agrees = agree r process k.entry xs (view_of q w) (view_at f.stamp x.reads) (sym now) shows_real shows_job
+
     pub did : DidTheSame (Accesses r.design process k.entry) o (outcome_of r x)
     did =
         subst (λ y. DidTheSame (Accesses r.design process k.entry) o y) (sym outcome)
-        (reads r.design r.limits.statements q process k (view_of q w) (view_at f.stamp x.reads) process_there (agree r process k.entry xs (view_of q w) (view_at f.stamp x.reads) (sym now) shows_real shows_job))
+        (reads r.design r.limits.statements q process k (view_of q w) (view_at f.stamp x.reads) process_there agrees)
 
     -- ---- effects
 
@@ -631,8 +635,13 @@ module _ (r : Rules) (rules : AreRules r) (sound : IsSound r.design) (does : Doe
           (all_held c fs (channel_at w.channels c) (holder_of r.design (holds_reading c)) (holder_of r.design (holds_writing c)) (a.world.held c lt));
     }
 
+    reads_same : (proc : Proc) → slice_get r.design.processes q ≡ Some proc → AgreeOn (Accesses r.design proc (entry_of r f.segment)) (view_of q w) (view_at f.stamp x.reads)
+    reads_same proc at_q =
+        subst (λ n. AgreeOn (Accesses r.design proc n) (view_of q w) (view_at f.stamp x.reads)) (sym entry_is)
+        (subst (λ z. AgreeOn (Accesses r.design z k.entry) (view_of q w) (view_at f.stamp x.reads)) (some_is process proc (sym process_there ∙ at_q)) agrees)
+
     made_turned : AreMadeAs r (w.made ++ record { place = place_of w.stamp q; view = view_of q w; deed = o.deed } ∷ []) (x ∷ xs)
-    made_turned = more_made (record { place = place_of w.stamp q; view = view_of q w; deed = o.deed }) x a.made (record { stamp = sym now; process = refl; output = did.output; effects = did.effects; end = did.end })
+    made_turned = more_made (record { place = place_of w.stamp q; view = view_of q w; deed = o.deed }) x a.made (record { stamp = sym now; process = refl; output = did.output; effects = did.effects; end = did.end; reads = reads_same })
 
     descend_turned : Descend r (x ∷ xs)
     descend_turned = (sym owner, (λ z i. ⊎_elim (λ lt. inl lt) (λ e. inr e.0) (before z i)), a.descend)

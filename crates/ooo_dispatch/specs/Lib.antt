@@ -3,3 +3,7 @@ pub mod Boards
 pub mod Enough
 pub mod Scheduler
 pub mod Reports
+pub mod Least
+pub mod Steps
+pub mod Schedules
+pub mod Worked

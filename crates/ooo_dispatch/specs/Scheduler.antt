@@ -1,20 +1,27 @@
 -- The sequential run of a design, beside the run of which the theorem on schedules speaks.
-use Rattle.std.specs.Prelude.{◌≡◌, List, [], ◌∷◌, ◌++◌}
+use Rattle.std.specs.Prelude.{◌≡◌, List, [], ◌∷◌, ◌++◌, Some, slice_get}
 use Rattle.ooo_time.specs.declared.stamp.Stamp.{Stamp}
+use Rattle.ooo_code.specs.declared.design.Proc.{Proc}
+use Rattle.ooo_code.specs.Dependence.{AgreeOn}
+use Rattle.ooo_code.specs.Segments.{Accesses}
 use Rattle.ooo_meaning.specs.World.{Made}
 use Rattle.ooo_meaning.specs.Sequence.{Result}
 use Rattle.ooo_schedules.specs.Model.{Act, Dispatched, In, Reports}
 use Rattle.ooo_dispatch.specs.declared.reads.Reads.{Reads}
-use Rattle.ooo_dispatch.specs.Rules.{Rules, outcome_of}
+use Rattle.ooo_dispatch.specs.Rules.{Rules, entry_of, outcome_of, view_at}
 use Rattle.ooo_dispatch.specs.Boards.{Board, IsOverBoard, model}
 
--- an activation that the scheduler made is this one: at its place, with the same output, effects and end
+-- an activation that the scheduler made is this one: at its place, with the same output, effects and end, and what it saw of
+-- all that its segment touches is what this one reads
 pub record IsMadeAs (r : Rules) (m : Made) (x : Act Stamp Reads) : Type 0 where
   pub stamp : m.place.stamp ≡ x.stamp
   pub process : m.place.process ≡ x.process
   pub output : m.deed.output ≡ (outcome_of r x).deed.output
   pub effects : m.deed.effects ≡ (outcome_of r x).deed.effects
   pub end : m.deed.end ≡ (outcome_of r x).deed.end
+  pub reads :
+      (process : Proc) → slice_get r.design.processes x.process ≡ Some process →
+      AgreeOn (Accesses r.design process (entry_of r x.segment)) m.view (view_at x.stamp x.reads)
 
 -- the activations of the scheduler in order are those of a log, whose last one comes first
 pub data AreMadeAs (r : Rules) : List Made → List (Act Stamp Reads) → Type 0 where

@@ -1,6 +1,6 @@
 //! What holds of the definitions: functions that do nothing, whose clauses are laws.
 
-ghost use Rattle.std.specs.Prelude.{◌≡◌, ℕ, ◌+◌, ◌*◌, ◌<◌, ◌≤◌, ◌⊎◌, List, [], Option, Some, slice_get};
+ghost use Rattle.std.specs.Prelude.{◌≡◌, ℕ, ◌+◌, ◌*◌, ◌<◌, ◌≤◌, ◌⊎◌, List, [], ◌∷◌, ◌++◌, Option, Some, slice_get};
 ghost use Rattle.ooo_time.specs.declared.stamp.Stamp.{Stamp as StampSpec};
 ghost use Rattle.ooo_code.specs.declared.design.Proc.{Proc as ProcSpec};
 ghost use Rattle.ooo_code.specs.declared.segment.Segment.{Segment as SegmentSpec};
@@ -23,6 +23,17 @@ ghost use Rattle.ooo_dispatch.specs.Rules.{Rules, reads_at, tables, view_at};
 ghost use Rattle.ooo_dispatch.specs.Scheduler.{AgreesWith, AreMadeAs};
 ghost use Rattle.ooo_dispatch.specs.Boards.{AreRules, Board, IsAllowed, IsLawful, IsOverBoard, model};
 ghost use Rattle.ooo_dispatch.specs.Reports.{run_of_board};
+ghost use Rattle.ooo_time.specs.Scales.{greatest_time};
+ghost use Rattle.ooo_code.specs.declared.design.Design.{Design as DesignSpec};
+ghost use Rattle.ooo_code.specs.declared.limits.Limits.{Limits as LimitsSpec};
+ghost use Rattle.ooo_tables.specs.declared.tables.Tables.{Tables as TablesSpec};
+ghost use Rattle.ooo_tables.specs.Tables.{AreTables};
+ghost use Rattle.ooo_dispatch.specs.declared.step.Step.{Step as StepSpec};
+ghost use Rattle.ooo_dispatch.specs.Least.{MayRun, rules_of};
+ghost use Rattle.ooo_dispatch.specs.Worked.{WorkedSchedule};
+ghost use Rattle.ooo_dispatch.specs.Schedules.{Always, CommitsPutBack, CommitsWalk, CutStays, IsReady};
+ghost use Rattle.ooo_dispatch.specs.Schedules.{NoDeadEnd, NoneOvertakes, NothingAway, StayAllowed};
+ghost use Rattle.ooo_dispatch.specs.Steps.{AreLawful, IsLawfulStep, Replay, nothing_done, replayed};
 
 use crate::reads::Reads;
 
@@ -37,6 +48,37 @@ pub fn goes_on()
         IsLawful r b → IsAllowed r b p f → IsLawful r (dispatched (model r) b p f) }
     ensures committed { (r : Rules) (b : Board r) (j : Act StampSpec ReadsSpec) →
         IsLawful r b → In j b.out → IsLawful r (committed (model r) b j) }
+{}
+
+/// The tables that are computed of a design are such as the laws speak of.
+pub fn tables_are_rules()
+    ensures { (design : DesignSpec) (limits : LimitsSpec) (t : TablesSpec) →
+        AreTables design t → AreRules (rules_of design limits t) }
+{}
+
+/// What the least delays and the clashes of the tables allow is allowed.
+pub fn least_allows()
+    ensures { (design : DesignSpec) (limits : LimitsSpec) (t : TablesSpec)
+        (b : Board (rules_of design limits t)) (p : ℕ) (f : Front StampSpec) →
+        AreTables design t → limits.stop.0 ≤ greatest_time →
+        MayRun (rules_of design limits t) t.advance b p f → IsAllowed (rules_of design limits t) b p f }
+{}
+
+/// The empty list of steps is lawful; a lawful one goes on with each step that is lawful after it; and what a lawful one
+/// leads to is a board of which the laws speak.
+pub fn steps_are_lawful()
+    ensures empty { (design : DesignSpec) (limits : LimitsSpec) (t : TablesSpec) →
+        AreLawful (rules_of design limits t) t.advance (nothing_done (rules_of design limits t)) [] }
+    ensures on { (design : DesignSpec) (limits : LimitsSpec) (t : TablesSpec)
+        (s : Replay (rules_of design limits t)) (steps : List StepSpec) (step : StepSpec) →
+        AreLawful (rules_of design limits t) t.advance s steps →
+        IsLawfulStep (rules_of design limits t) t.advance (replayed (rules_of design limits t) s steps) step →
+        AreLawful (rules_of design limits t) t.advance s (steps ++ step ∷ []) }
+    ensures leads { (design : DesignSpec) (limits : LimitsSpec) (t : TablesSpec) (steps : List StepSpec) →
+        AreTables design t → limits.stop.0 ≤ greatest_time →
+        AreLawful (rules_of design limits t) t.advance (nothing_done (rules_of design limits t)) steps →
+        IsLawful (rules_of design limits t)
+        (replayed (rules_of design limits t) (nothing_done (rules_of design limits t)) steps).board }
 {}
 
 /// The tables of a sound design say of its activations what the theorem on schedules asks: what they call their segments
@@ -81,6 +123,80 @@ pub fn every_schedule()
     tables_are_sound();
     processes_start();
     ooo_schedules::law::every_schedule::<Reads>();
+}
+
+/// A worked schedule, in which one thread is over before the other runs at an earlier time, computed from the definitions
+/// alone: each step is lawful, the board is over after them, and it shows what was printed in order of place.
+pub fn worked_schedule()
+    ensures { WorkedSchedule }
+{}
+
+/// Of every lawful list of steps: each front after a commit was there, and not later, or by the table of least delays the
+/// job that is committed leads to it.
+pub fn commits_walk()
+    ensures { (design : DesignSpec) (limits : LimitsSpec) (t : TablesSpec) →
+        IsReady design limits t → Always design limits t CommitsWalk }
+{
+    tables_are_sound();
+    every_schedule();
+}
+
+/// Of every lawful list of steps: a place that is below the cut after a further step was so before it; so the cut never
+/// rises.
+pub fn cut_stays()
+    ensures { (design : DesignSpec) (limits : LimitsSpec) (t : TablesSpec) →
+        IsReady design limits t → Always design limits t CutStays }
+{
+    tables_are_sound();
+    every_schedule();
+    ooo_schedules::law::every_cut::<Reads>();
+}
+
+/// Of every lawful list of steps: nothing that was dispatched at a later place than a job that is out clashes with it.
+pub fn none_overtakes()
+    ensures { (design : DesignSpec) (limits : LimitsSpec) (t : TablesSpec) →
+        IsReady design limits t → Always design limits t NoneOvertakes }
+{
+    tables_are_sound();
+    every_schedule();
+}
+
+/// Of every lawful list of steps: no job out owns a variable that an allowed segment touches, or that another job does.
+pub fn nothing_away()
+    ensures { (design : DesignSpec) (limits : LimitsSpec) (t : TablesSpec) →
+        IsReady design limits t → Always design limits t NothingAway }
+{
+    tables_are_sound();
+    every_schedule();
+}
+
+/// Of every lawful list of steps: a commit puts each variable that the job owns back as its activation leaves it, and all
+/// others stay.
+pub fn commits_put_back()
+    ensures { (design : DesignSpec) (limits : LimitsSpec) (t : TablesSpec) →
+        IsReady design limits t → Always design limits t CommitsPutBack }
+{
+    tables_are_sound();
+    every_schedule();
+}
+
+/// Of every lawful list of steps: what is allowed stays so until it is dispatched or is no more below the cut, and its job
+/// stays the same.
+pub fn stay_allowed()
+    ensures { (design : DesignSpec) (limits : LimitsSpec) (t : TablesSpec) →
+        IsReady design limits t → Always design limits t StayAllowed }
+{
+    tables_are_sound();
+    every_schedule();
+}
+
+/// Of every lawful list of steps: where no process runs, the front of least place may be dispatched, if it is below the cut.
+pub fn no_dead_end()
+    ensures { (design : DesignSpec) (limits : LimitsSpec) (t : TablesSpec) →
+        IsReady design limits t → Always design limits t NoDeadEnd }
+{
+    tables_are_sound();
+    every_schedule();
 }
 
 /// Of the activations before its place, a segment reads those that it may see; what they make of all that it touches is
@@ -149,4 +265,18 @@ pub fn every_board_reports()
     ooo_schedules::law::every_step::<Reads>();
     ooo_schedules::law::every_ending::<Reads>();
     ooo_schedules::law::every_report::<Reads>();
+}
+
+/// Of every lawful list of steps: the board agrees with the sequential run, and once it is over, the run that is read off it
+/// is that one.
+pub fn every_list_agrees()
+    ensures agrees { (design : DesignSpec) (limits : LimitsSpec) (t : TablesSpec) (result : Result) →
+        IsReady design limits t → IsSequentialRun design limits result →
+        Always design limits t (λ r least s. AgreesWith r s.board result) }
+    ensures reports { (design : DesignSpec) (limits : LimitsSpec) (t : TablesSpec) (result : Result) →
+        IsReady design limits t → IsSequentialRun design limits result → Always design limits t
+        (λ r least s. IsOverBoard r s.board → ShowsRun (run_of_board r s.board) result) }
+{
+    every_board_agrees();
+    every_board_reports();
 }

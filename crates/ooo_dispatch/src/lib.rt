@@ -14,5 +14,7 @@
 
 pub mod law;
 mod reads;
+mod step;
 
 pub use reads::Reads;
+pub use step::Step;

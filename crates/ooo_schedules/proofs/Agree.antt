@@ -88,7 +88,7 @@ module _ (m : Model) (l : Laws m) (zs : Log m) (q : Sequential m zs) where
         fewer_at h (some z e i p c) =
             let k : x.number ≡ count x.process xs = r.1.number in
             let s : count z.process st.log ≡ count x.process st.log = ap (λ t. count t st.log) p in
-            onward z (ih z i (omega (arith, h, c, k, s))) (l.own xs x.process z (front_at x) e r.1.front).0
+            onward z (ih z i (omega (arith, h, c, k, s))) (l.edges z.segment z.stamp x.segment x.stamp (l.own xs x.process z (front_at x) e r.1.front).0)
 
         fewer : count x.process st.log < x.number → Leads m st (front_at x)
         fewer h = fewer_at h (lasts m x.process xs o)

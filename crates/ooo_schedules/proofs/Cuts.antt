@@ -1,15 +1,11 @@
 -- The cut never rises.
-use Rattle.std.proofs.Common.{◌≡◌, ◌≢◌, ℕ, inr, Some, sym, ap, ◌∙◌, subst}
-use Rattle.ooo_schedules.specs.Model.{Front, front_at, In, Model, ActOf, NotAfter, State, front_of, Allowed, dispatched, committed, Lawful, Laws, IsLeast}
+use Rattle.std.proofs.Common.{◌≡◌, ◌≢◌, ℕ, inr, sym, ap, ◌∙◌, subst}
+use Rattle.ooo_schedules.specs.Model.{Front, front_at, In, Model, ActOf, State, front_of, Allowed, dispatched, committed, Lawful, Laws}
+use Rattle.ooo_schedules.specs.Cuts.{IsCut, by_end, by_limit}
 use Rattle.ooo_schedules.proofs.Logs.{some_is}
 use Rattle.ooo_schedules.proofs.Walks.{dispatch_fronts, front_of_out, good}
 use Rattle.ooo_schedules.proofs.Steps.{least_stays}
 use Rattle.ooo_schedules.proofs.Over.{never_at_limit}
-
--- the cut is at this place or before it, whatever the stop time
-pub data IsCut (m : Model) (st : State m) (s : m.Stamp) (p : ℕ) : Type 0 where
-  by_end : (y : ActOf m) → In y st.log → m.Cuts y s p → IsCut m st s p
-  by_limit : (r : ℕ) (f : Front m.Stamp) → front_of m st r ≡ Some f → IsLeast m st r f → m.AtLimit f.stamp → NotAfter m f.stamp s → IsCut m st s p
 
 module _ (m : Model) (l : Laws m) (st : State m) (lawful : Lawful m st) where
   pub cut_stays_dispatch : (p : ℕ) (f : Front m.Stamp) → Allowed m st p f → (s : m.Stamp) (q : ℕ) → IsCut m st s q → IsCut m (dispatched m st p f) s q

@@ -170,8 +170,8 @@ module _ (d : Design) (l : DesignLaws d) where
           let k = l.going q z x.wait (ap (d.wait q) (sym e) ∙ x.waits) in
           subst (λ t. t < d.processes) (ap d.process_of (sym x.segment) ∙ owner_law xs q f o a) k
 
-  own_law : (xs : Log M) (q : ℕ) (z : ActOf M) (f : Front d.Stamp) → last q xs ≡ Some z → M.front xs q ≡ Some f → d.Reaches z.segment z.stamp f.segment f.stamp × d.before z.stamp f.stamp
-  own_law xs q z f s a = subst (λ t. d.Reaches z.segment z.stamp t f.stamp × d.before z.stamp f.stamp) (sym x.segment) (at (front_ends xs x.wait f.stamp x.stamp))
+  own_law : (xs : Log M) (q : ℕ) (z : ActOf M) (f : Front d.Stamp) → last q xs ≡ Some z → M.front xs q ≡ Some f → d.LeadsTo z.segment z.stamp f.segment f.stamp × d.before z.stamp f.stamp
+  own_law xs q z f s a = subst (λ t. d.LeadsTo z.segment z.stamp t f.stamp × d.before z.stamp f.stamp) (sym x.segment) (at (front_ends xs x.wait f.stamp x.stamp))
     where
       x : FrontOf xs q f
       x = front_of xs q f a
@@ -179,7 +179,7 @@ module _ (d : Design) (l : DesignLaws d) where
       waits : d.wait q (Some z) ≡ Some x.wait
       waits = ap (d.wait q) (sym s) ∙ x.waits
 
-      at : Ends x.wait xs f.stamp → d.Reaches z.segment z.stamp x.wait.segment f.stamp × d.before z.stamp f.stamp
+      at : Ends x.wait xs f.stamp → d.LeadsTo z.segment z.stamp x.wait.segment f.stamp × d.before z.stamp f.stamp
       at (by_time h) = l.timed q z x.wait f.stamp waits h
       at (by_event e i h) = l.fired q z x.wait e (slot d e (sort d xs)) f.stamp waits i h
 
@@ -267,7 +267,7 @@ module _ (d : Design) (l : DesignLaws d) where
             inl (t, ap (λ x. d.first (slot d e x) w.since) s ∙ k, inr refl) in
             let lacks : count z.process xs ≤ z.number → Goal e t = λ n.
             let all' : (u : ActOf M) → In u (done e f.stamp xs) → In u zs = λ u j. ⊎_elim (λ s. let b = below M xs z ox (subst (λ x. In x xs) s (done_is e f.stamp xs u j).is_in) in absurd (omega (arith, b, n))) (λ s. s) (all u j) in
-            ⊎_elim (λ v. goal_more e v.0 t v.2 (down zs v.0 h.1 (λ u j. sub u (inr j)) all' v.1)) (λ v. inr (z, z_in.is_in, n, l.edge e q z (last q ys) w t y.waits i v)) (l.makes e z (slot d e zs) w.since t k) in
+            ⊎_elim (λ v. goal_more e v.0 t v.2 (down zs v.0 h.1 (λ u j. sub u (inr j)) all' v.1)) (λ v. inr (z, z_in.is_in, n, l.edges z.segment z.stamp w.segment t (l.edge e q z (last q ys) w t y.waits i v))) (l.makes e z (slot d e zs) w.since t k) in
             ⊎_elim has lacks (less_or z.number (count z.process xs))
 
       abbrev Result : Type 0
@@ -297,7 +297,7 @@ module _ (d : Design) (l : DesignLaws d) where
     v = front_of (x ∷ xs) r g front_x
 
     abbrev Walk : Type 0
-    Walk = ((f : Front d.Stamp) × (M.front xs r ≡ Some f) × (f.segment ≡ g.segment) × NotAfter M f.stamp g.stamp) ⊎ d.Reaches x.segment x.stamp g.segment g.stamp
+    Walk = ((f : Front d.Stamp) × (M.front xs r ≡ Some f) × (f.segment ≡ g.segment) × NotAfter M f.stamp g.stamp) ⊎ d.LeadsTo x.segment x.stamp g.segment g.stamp
 
     waits_xs : d.wait r (last r xs) ≡ Some v.wait
     waits_xs = ap (d.wait r) (sym (last_other d.Stamp d.Reads r x xs (λ h. n (sym h)))) ∙ v.waits
@@ -353,7 +353,7 @@ module _ (d : Design) (l : DesignLaws d) where
         at false t = was_there g.stamp (inr refl) (by_event e i (back g.stamp (ap (λ s. d.first (slot d e s) v.wait.since) (sym (untouched e t)) ∙ h')))
         at true t =
             ⊎_elim (λ k. was_there k.0 k.2 (by_event e i (back k.0 k.1)))
-            (λ k. inr (subst (λ s. d.Reaches x.segment x.stamp s g.stamp) (sym v.segment) (l.edge e r x (last r (x ∷ xs)) v.wait g.stamp v.waits i k)))
+            (λ k. inr (subst (λ s. d.LeadsTo x.segment x.stamp s g.stamp) (sym v.segment) (l.edge e r x (last r (x ∷ xs)) v.wait g.stamp v.waits i k)))
             (l.makes e x (slot d e (touched e xs)) v.wait.since g.stamp (ap (λ s. d.first (slot d e s) v.wait.since) (sym (appended e t)) ∙ h'))
 
     walk_law : Walk
@@ -384,6 +384,7 @@ module _ (d : Design) (l : DesignLaws d) where
     order = order d l;
     stays = l.stays;
     joins = l.joins;
+    edges = l.edges;
     forward = l.forward;
     mirrored = l.mirrored;
     wakes = l.wakes;

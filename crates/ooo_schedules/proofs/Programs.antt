@@ -5,7 +5,7 @@ use Rattle.ooo_schedules.specs.Model.{In, Laws}
 use Rattle.ooo_time.specs.declared.stamp.Stamp.{Stamp}
 use Rattle.ooo_time.specs.Stamps.{IsBefore}
 use Rattle.ooo_time.specs.Delays.{advanced}
-use Rattle.ooo_schedules.specs.Delays.{NotAfter, Reach}
+use Rattle.ooo_schedules.specs.Delays.{LeadsTo, NotAfter}
 use Rattle.ooo_schedules.specs.Design.{Wait, DesignLaws, model}
 use Rattle.ooo_schedules.specs.Slots.{Call, Notify, Cancel, calls_at, first_of}
 use Rattle.ooo_time.specs.Stamps.{is_before, stamp_after}
@@ -235,7 +235,7 @@ module _ (p : Program) (h : Sound p) where
   abbrev Notes : ℕ → ActIn p → Stamp → Type 0
   Notes e x t = (old : Value) × Makes x.stamp (calls_of x.stamp e (p.origin e) old (p.act x).effects) t
 
-  edge : (e q : ℕ) (x : ActIn p) (z : Option (ActIn p)) (w : Wait Stamp) (t : Stamp) → wait_by p q z ≡ Some w → In e w.events → Notes e x t → Reach p.edges x.segment x.stamp w.segment t
+  edge : (e q : ℕ) (x : ActIn p) (z : Option (ActIn p)) (w : Wait Stamp) (t : Stamp) → wait_by p q z ≡ Some w → In e w.events → Notes e x t → LeadsTo p.edges x.segment x.stamp w.segment t
   edge e q x z w t k i n = ⊎_elim own channel (is_own (p.origin e))
     where
       made : (u : Stamp) × In (Notify u) (calls_of x.stamp e (p.origin e) n.0 (p.act x).effects) × NotAfter u t
@@ -244,19 +244,19 @@ module _ (p : Program) (h : Sound p) where
       waits : p.waits_on w.segment e
       waits = wakes e q z w k i
 
-      own : p.origin e ≡ event.Own → Reach p.edges x.segment x.stamp w.segment t
+      own : p.origin e ≡ event.Own → LeadsTo p.edges x.segment x.stamp w.segment t
       own o =
           let s = own_source x.stamp e made.0 [] (p.act x).effects (subst (λ y. In (Notify made.0) (calls_of x.stamp e y n.0 (p.act x).effects)) o made.1) in
           ⊎_elim (λ j. absurd j)
           (λ f.
           let d = h.own_edge x e f.time w.segment o f.is_in waits in
-          reach_edge p.edges x.segment x.stamp d.0 w.segment t d.1 (not_after_joins (advanced x.stamp d.0) (stamp_after x.stamp f.time) t d.2 (subst (λ y. NotAfter y t) f.stamp made.2))) s
+          (d.0, d.1, not_after_joins (advanced x.stamp d.0) (stamp_after x.stamp f.time) t d.2 (subst (λ y. NotAfter y t) f.stamp made.2))) s
 
-      channel : p.origin e ≢ event.Own → Reach p.edges x.segment x.stamp w.segment t
+      channel : p.origin e ≢ event.Own → LeadsTo p.edges x.segment x.stamp w.segment t
       channel o =
           let a = h.notified e x (calling_touches (Notify made.0) x.stamp e (p.origin e) n.0 (p.act x).effects made.1) in
           let u = channel_source x.stamp e (p.origin e) n.0 (p.act x).effects made.0 o made.1 in
-          reach_edge p.edges x.segment x.stamp one_delta w.segment t (h.channel_edge x.segment e w.segment o a waits) (subst (λ y. NotAfter y t) u made.2)
+          (one_delta, h.channel_edge x.segment e w.segment o a waits, subst (λ y. NotAfter y t) u made.2)
 
   pub design_laws : DesignLaws (design p)
   design_laws = record {
@@ -280,6 +280,7 @@ module _ (p : Program) (h : Sound p) where
     noted = λ e x t n. made_later Stamp IsBefore is_before irreflexive transitive is_yes is_no x.stamp (calls_of x.stamp e (p.origin e) n.0 (p.act x).effects) t (calls_later x.stamp e (p.origin e) n.0 (p.act x).effects) n.1;
     joint = λ e x y a b. ⊎_elim (λ o. inr (h.own_clash x.segment y.segment e o (h.notified e x a) (h.notified e y b))) (λ o. inl (h.one_maker x.segment y.segment e o (h.notified e x a) (h.notified e y b))) (is_own (p.origin e));
     wake = λ e q x z w k i a. (e, h.notified e x a, wakes e q z w k i);
+    edges = λ a s b t e. reach_edge p.edges a s e.0 b t e.1 e.2;
     edge = edge;
     begins = h.start_owner;
     next = λ q z w k. let f = left_is z.stamp (p.act z).left w k in ap p.process_of f.segment ∙ h.next z f.next f.time f.events f.is;
@@ -287,12 +288,12 @@ module _ (p : Program) (h : Sound p) where
         let f = left_is z.stamp (p.act z).left w k in
         let g = time_out_is z.stamp f.time t (sym f.timeout ∙ e) in
         let d = h.next_time z f.next g.0 f.events (f.is ∙ ap (λ y. Waits f.next y f.events) g.1) in
-        (subst (λ n. Reach p.edges z.segment z.stamp n t) (sym f.segment) (reach_edge p.edges z.segment z.stamp d.0 f.next t d.1 (subst (λ y. NotAfter (advanced z.stamp d.0) y) (sym g.2) d.2)), subst (IsBefore z.stamp) (sym g.2) (after_later z.stamp g.0));
+        (subst (λ n. LeadsTo p.edges z.segment z.stamp n t) (sym f.segment) (d.0, d.1, subst (λ y. NotAfter (advanced z.stamp d.0) y) (sym g.2) d.2), subst (IsBefore z.stamp) (sym g.2) (after_later z.stamp g.0));
     fired = λ q z w e s t k i f.
         let g = left_is z.stamp (p.act z).left w k in
         let b = first_since Stamp IsBefore is_before irreflexive transitive is_yes is_no s.event z.stamp t (ap (first_of Stamp is_before s.event) (sym g.since) ∙ f) in
         let d = h.next_event z g.next g.time g.events e g.is (subst (In e) g.waits i) in
-        (subst (λ n. Reach p.edges z.segment z.stamp n t) (sym g.segment) (reach_edge p.edges z.segment z.stamp one_delta g.next t d (delta_not_after z.stamp t b)), b);
+        (subst (λ n. LeadsTo p.edges z.segment z.stamp n t) (sym g.segment) (one_delta, d, delta_not_after z.stamp t b), b);
     seen = λ q g s y e.
         ⊎_elim (λ a. inl (eqb-true y.process q a))
         (λ a. inr (⊎_elim (λ b. inl b) (λ b. let c = and_true (is_before y.stamp s) (p.clash y.segment g true) b in inr (is_yes y.stamp s c.0, c.1)) (or_true (p.clash y.segment g false) (is_before y.stamp s && p.clash y.segment g true) a)))

@@ -54,7 +54,7 @@ module _ (m : Model) (l : Laws m) where
       other : r ≢ x.process → Earlier m x.stamp x.process g.stamp r
       other s =
           ⊎_elim (λ w. earlier_then m l.order x.stamp x.process w.0.stamp g.stamp r (n.least r w.0 s w.1) w.3)
-          (λ w. ⊎_elim (λ b. inl b) (λ k. absurd (s (sym (l.owner (x ∷ xs) r g (follows, h.ordered) e) ∙ ap m.process_of (sym k.1) ∙ follows.segment))) (l.forward x.segment x.stamp g.segment g.stamp w))
+          (λ w. ⊎_elim (λ b. inl b) (λ k. absurd (s (sym (l.owner (x ∷ xs) r g (follows, h.ordered) e) ∙ ap m.process_of (sym k.1) ∙ follows.segment))) (l.forward x.segment x.stamp g.segment g.stamp (l.edges x.segment x.stamp g.segment g.stamp w)))
           (l.walk xs x r g h.ordered follows no_later s e)
 
   run_next : (x : ActOf m) (xs : Log m) → Next m x xs → Run xs → Run (x ∷ xs)

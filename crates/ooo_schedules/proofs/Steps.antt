@@ -151,4 +151,4 @@ module _ (m : Model) (l : Laws m) (st : State m) (good : Good m st) where
       at r g k (reached w) u =
           ⊎_elim (λ z. inl (not_after_then m l.order f.stamp j.stamp g.stamp (earlier_not_after m l.order f.stamp p j.stamp j.process before_j) z))
           (λ z. inl (not_after_then m l.order f.stamp j.stamp g.stamp (earlier_not_after m l.order f.stamp p j.stamp j.process before_j) (own_later r g u (sym (front_owner m l (committed m st j) (good_commit m l st j good i) r g u) ∙ ap m.process_of (sym z.1) ∙ (good.follows j i).segment))))
-          (l.forward j.segment j.stamp g.segment g.stamp w)
+          (l.forward j.segment j.stamp g.segment g.stamp (l.edges j.segment j.stamp g.segment g.stamp w))

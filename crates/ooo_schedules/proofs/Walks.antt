@@ -105,7 +105,7 @@ module _ (m : Model) (l : Laws m) where
   -- walks: each front after a commit was there, or is reached from the front that was committed
   pub data Walked (st : State m) (j : ActOf m) (r : ℕ) (g : Front m.Stamp) : Type 0 where
     was : (f : Front m.Stamp) → front_of m st r ≡ Some f → f.segment ≡ g.segment → NotAfter m f.stamp g.stamp → Walked st j r g
-    reached : m.Reaches j.segment j.stamp g.segment g.stamp → Walked st j r g
+    reached : m.LeadsTo j.segment j.stamp g.segment g.stamp → Walked st j r g
 
   pub walks : (st : State m) → Good m st → (j : ActOf m) → In j st.out → (r : ℕ) (g : Front m.Stamp) → front_of m (committed m st j) r ≡ Some g → Walked st j r g
   walks st good j i r g e = ⊎_elim own other (same_or_not r j.process)
@@ -132,7 +132,7 @@ module _ (m : Model) (l : Laws m) where
     where
       at : Walked st j r g → Leads m st g
       at (was f h s t) = (r, f, h, subst (λ x. m.Reaches f.segment f.stamp x g.stamp) s (l.stays f.segment f.stamp g.stamp t))
-      at (reached w) = (j.process, front_at j, front_of_out st j.process j (good.alone j i), w)
+      at (reached w) = (j.process, front_at j, front_of_out st j.process j (good.alone j i), l.edges j.segment j.stamp g.segment g.stamp w)
 
   pub dispatched_before : (st : State m) (j : ActOf m) → In j st.out → (y : ActOf m) → Dispatched m y (committed m st j) → Dispatched m y st
   dispatched_before st j i y d =

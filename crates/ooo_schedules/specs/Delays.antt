@@ -32,6 +32,10 @@ pub record IsLeastWalk (g : Edges) (a b : ℕ) (k : Delay) : Type 0 where
 abbrev pub NotAfter : Stamp → Stamp → Type 0
 NotAfter s t = IsBefore s t ⊎ (s ≡ t)
 
+-- an edge leads from a segment at a stamp to another that isn't after a stamp
+abbrev pub LeadsTo : Edges → ℕ → Stamp → ℕ → Stamp → Type 0
+LeadsTo g a s b t = (k : Delay) × g.Edge a k b × NotAfter (advanced s k) t
+
 -- some walk leads from a segment at a stamp to another that isn't after a stamp
 abbrev pub Reach : Edges → ℕ → Stamp → ℕ → Stamp → Type 0
 Reach g a s b t = (k : Delay) × Walk g a k b × NotAfter (advanced s k) t

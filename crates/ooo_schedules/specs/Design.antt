@@ -18,6 +18,7 @@ pub record Design : Type 1 where
   pub Clash : ℕ → ℕ → Bool → Type 0
   pub Wakes : ℕ → ℕ → Type 0
   pub Reaches : ℕ → Stamp → ℕ → Stamp → Type 0
+  pub LeadsTo : ℕ → Stamp → ℕ → Stamp → Type 0
   -- an event: what is kept of it, what an activation does to it, and the least stamp after one at which it fires or is to fire
   pub Slot : Type 0
   pub no_slot : ℕ → Slot
@@ -89,6 +90,7 @@ model d = record {
   Clash = d.Clash;
   Wakes = d.Wakes;
   Reaches = d.Reaches;
+  LeadsTo = d.LeadsTo;
   front = λ xs q. front_when d (sort d xs) (d.wait q (last q xs));
   reads = λ xs p g s. d.look p g s (last p xs) (only (d.sees p g s) (sort d xs));
   processes = d.processes;
@@ -109,6 +111,7 @@ pub record DesignLaws (d : Design) : Type 1 where
   pub is_no : (s t : d.Stamp) → d.is_before s t ≡ false → Not_after d t s
   pub stays : (a : ℕ) (s t : d.Stamp) → Not_after d s t → d.Reaches a s a t
   pub joins : (a : ℕ) (s : d.Stamp) (b : ℕ) (t : d.Stamp) (c : ℕ) (u : d.Stamp) → d.Reaches a s b t → d.Reaches b t c u → d.Reaches a s c u
+  pub edges : (a : ℕ) (s : d.Stamp) (b : ℕ) (t : d.Stamp) → d.LeadsTo a s b t → d.Reaches a s b t
   pub forward : (a : ℕ) (s : d.Stamp) (b : ℕ) (t : d.Stamp) → d.Reaches a s b t → d.before s t ⊎ (s ≡ t) × (a ≡ b)
   pub mirrored : (a b : ℕ) → d.Clash a b false → d.Clash b a false
   pub wakes : (a b : ℕ) → d.Wakes a b → d.Clash a b true
@@ -123,12 +126,12 @@ pub record DesignLaws (d : Design) : Type 1 where
   -- access: who touches an event clashes with others that do, or is of the same process; it wakes who waits on it; what it makes is along an edge
   pub joint : (e : ℕ) (x y : Act d.Stamp d.Reads) → d.touches e x ≡ true → d.touches e y ≡ true → (d.process_of x.segment ≡ d.process_of y.segment) ⊎ d.Clash x.segment y.segment false
   pub wake : (e q : ℕ) (x : Act d.Stamp d.Reads) (z : Option (Act d.Stamp d.Reads)) (w : Wait d.Stamp) → d.wait q z ≡ Some w → In e w.events → d.touches e x ≡ true → d.Wakes x.segment w.segment
-  pub edge : (e q : ℕ) (x : Act d.Stamp d.Reads) (z : Option (Act d.Stamp d.Reads)) (w : Wait d.Stamp) (t : d.Stamp) → d.wait q z ≡ Some w → In e w.events → Notes e x t → d.Reaches x.segment x.stamp w.segment t
+  pub edge : (e q : ℕ) (x : Act d.Stamp d.Reads) (z : Option (Act d.Stamp d.Reads)) (w : Wait d.Stamp) (t : d.Stamp) → d.wait q z ≡ Some w → In e w.events → Notes e x t → d.LeadsTo x.segment x.stamp w.segment t
   -- waits
   pub begins : (q : ℕ) (w : Wait d.Stamp) → d.wait q None ≡ Some w → d.process_of w.segment ≡ q
   pub next : (q : ℕ) (z : Act d.Stamp d.Reads) (w : Wait d.Stamp) → d.wait q (Some z) ≡ Some w → d.process_of w.segment ≡ d.process_of z.segment
-  pub timed : (q : ℕ) (z : Act d.Stamp d.Reads) (w : Wait d.Stamp) (t : d.Stamp) → d.wait q (Some z) ≡ Some w → w.timeout ≡ Some t → d.Reaches z.segment z.stamp w.segment t × d.before z.stamp t
-  pub fired : (q : ℕ) (z : Act d.Stamp d.Reads) (w : Wait d.Stamp) (e : ℕ) (s : d.Slot) (t : d.Stamp) → d.wait q (Some z) ≡ Some w → In e w.events → d.first s w.since ≡ Some t → d.Reaches z.segment z.stamp w.segment t × d.before z.stamp t
+  pub timed : (q : ℕ) (z : Act d.Stamp d.Reads) (w : Wait d.Stamp) (t : d.Stamp) → d.wait q (Some z) ≡ Some w → w.timeout ≡ Some t → d.LeadsTo z.segment z.stamp w.segment t × d.before z.stamp t
+  pub fired : (q : ℕ) (z : Act d.Stamp d.Reads) (w : Wait d.Stamp) (e : ℕ) (s : d.Slot) (t : d.Stamp) → d.wait q (Some z) ≡ Some w → In e w.events → d.first s w.since ≡ Some t → d.LeadsTo z.segment z.stamp w.segment t × d.before z.stamp t
   -- what may be seen is of the process itself, or conflicts
   pub seen : (p g : ℕ) (s : d.Stamp) (y : Act d.Stamp d.Reads) → d.sees p g s y ≡ true → (y.process ≡ p) ⊎ (d.Clash y.segment g false ⊎ d.before y.stamp s × d.Clash y.segment g true)
   pub starting : (q : ℕ) (w : Wait d.Stamp) → d.wait q None ≡ Some w → q < d.processes

@@ -5,6 +5,7 @@ pub mod Slots
 pub mod Program
 pub mod Cycles
 pub mod Tables
+pub mod Cuts
 pub mod Worlds
 pub mod Updates
 pub mod Sequence

@@ -14,7 +14,7 @@ use Rattle.ooo_code.specs.declared.activation.Effect.TheVariants as effect
 use Rattle.ooo_code.specs.Channels.{same_value}
 use Rattle.ooo_meaning.specs.World.{next_delta}
 use Rattle.ooo_schedules.specs.Model.{Act, In}
-use Rattle.ooo_schedules.specs.Delays.{NotAfter, Edges, Reach, one_delta}
+use Rattle.ooo_schedules.specs.Delays.{NotAfter, Edges, LeadsTo, Reach, one_delta}
 use Rattle.ooo_schedules.specs.Slots.{Call, Notify, Cancel, Event, calls_at, first_of}
 use Rattle.ooo_schedules.specs.Design.{Wait, Design}
 
@@ -194,6 +194,7 @@ design p = record {
   Clash = λ a b strict. p.clash a b strict ≡ true;
   Wakes = λ a b. (e : ℕ) × p.notifies a e × p.waits_on b e;
   Reaches = Reach p.edges;
+  LeadsTo = LeadsTo p.edges;
   Slot = Slot;
   no_slot = λ e. record { event = record { fired = []; pending = None }; value = p.first_value e };
   touches = touches p;

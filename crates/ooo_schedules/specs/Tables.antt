@@ -87,11 +87,11 @@ NoConflict t =
     (st : State (board t)) → Lawful (board t) st → (x y : ActOf (board t)) → In x st.out → Dispatched (board t) y st → x.process ≢ y.process → IsEarlier (board t) x y →
     Conflict (board t) x.stamp x.segment y.stamp y.segment → ⊥
 
--- a front after a commit was there with a stamp that isn't later, or is reached from the job that was committed
+-- a front after a commit was there with a stamp that isn't later, or an edge leads to it from the job that was committed
 abbrev pub CommitWalks : {R : Type 0} → Tables R → Type 0
 CommitWalks t =
     (st : State (board t)) → Lawful (board t) st → (j : ActOf (board t)) → In j st.out → (r : ℕ) (g : Front Stamp) → front_of (board t) (committed (board t) st j) r ≡ Some g →
-    ((f : Front Stamp) × (front_of (board t) st r ≡ Some f) × (f.segment ≡ g.segment) × NotAfter (board t) f.stamp g.stamp) ⊎ (board t).Reaches j.segment j.stamp g.segment g.stamp
+    ((f : Front Stamp) × (front_of (board t) st r ≡ Some f) × (f.segment ≡ g.segment) × NotAfter (board t) f.stamp g.stamp) ⊎ (board t).LeadsTo j.segment j.stamp g.segment g.stamp
 
 -- what is allowed is so after a commit, and its job is the same
 abbrev pub StaysAllowed : {R : Type 0} → Tables R → Type 0
@@ -106,6 +106,11 @@ Moves t = (st : State (board t)) → Lawful (board t) st → (p : ℕ) (f : Fron
 -- no two jobs that are out have a plain clash
 abbrev pub JobsApart : {R : Type 0} → Tables R → Type 0
 JobsApart t = (st : State (board t)) → Lawful (board t) st → (j k : ActOf (board t)) → In j st.out → In k st.out → j.process ≢ k.process → (board t).Clash j.segment k.segment false → ⊥
+
+-- what a process did comes before its job
+abbrev pub OwnBefore : {R : Type 0} → Tables R → Type 0
+OwnBefore t =
+    (st : State (board t)) → Lawful (board t) st → (j y : ActOf (board t)) → In j st.out → In y st.log → y.process ≡ j.process → (board t).before y.stamp j.stamp
 
 -- where nothing runs, the front of least place is allowed, if its delta index is below the limit
 abbrev pub NoDeadEnd : {R : Type 0} → Tables R → Type 0
@@ -122,6 +127,7 @@ pub record EveryScheduleOf {R : Type 0} (t : Tables R) : Type 0 where
   pub stays_allowed : StaysAllowed t
   pub moves : Moves t
   pub jobs_apart : JobsApart t
+  pub own_before : OwnBefore t
   pub no_dead_end : NoDeadEnd t
 
 -- the law, for programs whose activations read an R

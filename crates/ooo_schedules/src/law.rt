@@ -1,6 +1,7 @@
 //! The laws: functions that do nothing, whose clauses are the laws.
 
 ghost use Rattle.ooo_schedules.specs.Boards.{EveryBoard};
+ghost use Rattle.ooo_schedules.specs.Cuts.{EveryCut};
 ghost use Rattle.ooo_schedules.specs.Example.{ExampleMet};
 ghost use Rattle.ooo_schedules.specs.Going.{EveryEnding, EveryStep};
 ghost use Rattle.ooo_schedules.specs.Reports.{EveryReport};
@@ -11,6 +12,11 @@ ghost use Rattle.ooo_schedules.specs.Tables.{EverySchedule};
 /// dispatched out of order doesn't conflict; and what is allowed stays so until it is dispatched, with the same job.
 pub fn every_schedule<R>()
     ensures { EverySchedule R }
+{}
+
+/// The cut of a board never rises: what an activation or the delta limit has cut off stays cut off.
+pub fn every_cut<R>()
+    ensures { EveryCut R }
 {}
 
 /// How the sequential run of such a program begins and goes on, turn by turn and cycle by cycle: for a scheduler of which it

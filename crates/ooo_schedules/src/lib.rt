@@ -5,7 +5,7 @@
 //! an activation does as a function of what it reads. `specs/Model` has the board: a log of committed activations, jobs
 //! out, the fronts of the processes, and the rule by which one may be dispatched (`Allowed`); a schedule is lawful where
 //! each of its steps is (`Lawful`). `specs/Program` has what access and edges must say of the activations (`Sound`),
-//! `specs/Sequence` the sequential scheduler (`RunsTo`), `specs/Tables` the theorem in nine parts.
+//! `specs/Sequence` the sequential scheduler (`RunsTo`), `specs/Tables` the theorem in ten parts.
 //!
 //! Proved, in module [`law`]: the theorem ([`law::every_schedule`]), how the sequential run goes on from turn to turn and
 //! ends, for schedulers that make the same steps ([`law::every_step`], [`law::every_ending`], `specs/Going`), what of a board

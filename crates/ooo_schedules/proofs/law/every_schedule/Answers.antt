@@ -16,7 +16,7 @@ use Rattle.ooo_schedules.proofs.law.every_schedule.Goals as goal
 walks_of : {R : Type 0} (t : Tables R) → Laws (board t) → CommitWalks t
 walks_of t l st h j i r g e = at (walks (board t) l st (good (board t) l st h) j i r g e)
   where
-    at : Walked (board t) l st j r g → ((f : Front Stamp) × (front_of (board t) st r ≡ Some f) × (f.segment ≡ g.segment) × NotAfter (board t) f.stamp g.stamp) ⊎ (board t).Reaches j.segment j.stamp g.segment g.stamp
+    at : Walked (board t) l st j r g → ((f : Front Stamp) × (front_of (board t) st r ≡ Some f) × (f.segment ≡ g.segment) × NotAfter (board t) f.stamp g.stamp) ⊎ (board t).LeadsTo j.segment j.stamp g.segment g.stamp
     at (was f k s n) = inl (f, k, s, n)
     at (reached w) = inr w
 
@@ -32,6 +32,7 @@ every t s starts =
       stays_allowed = λ st h j i p f a. (stays_commit (board t) l st (good (board t) l st h) j i p f a, same_reads (board t) l st (good (board t) l st h) j i p f a);
       moves = λ st h p f a j i. apart (board t) l st (good (board t) l st h) p f a j i;
       jobs_apart = λ st h j k i i' n c. jobs_apart (board t) l st (good (board t) l st h) j k i i' n c;
+      own_before = λ st h j y i k e. ((good (board t) l st h).follows j i).later y k e;
       no_dead_end = λ st h e p f k least w n. no_dead_end (board t) l st (good (board t) l st h) p f e k least w n;
     }
 
