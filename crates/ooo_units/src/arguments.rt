@@ -5,11 +5,13 @@ ghost use Rattle.ooo_grammar.specs.Members.{arg_part, args, ends_in_value, next_
 ghost use Rattle.ooo_units.specs.Loops.{arg_step};
 ghost use Rattle.ooo_units.specs.Parts.{maybe_args};
 
+use crate::keeping::with;
 use crate::signs::begins_with_arg;
 use ooo_exprs::read_boxed_value;
 use ooo_grammar::{Limits, Read, one, read_text, starts};
 use ooo_statements::{
-    begins_with_named_time, begins_with_unit_of_time, read_boxed_named_time, read_unit_of_time,
+    begins_with_named_time, begins_with_unit_of_time, followed, read_boxed_named_time,
+    read_unit_of_time,
 };
 use ooo_syntax::{Arg, Expr, Symbol, Terminal, TimeForm};
 use ooo_time::Scale;
@@ -37,12 +39,14 @@ fn with_unit(alloc: Global, unit: Scale, mut list: Items<Arg>) -> Result<Items<A
     ensures { IfOk result (λ xs. xs ≡ with_unit unit list) }
 {
     match list.pop() {
-        Some(Arg::Value(amount)) => list.push(Arg::Time(amount_of(alloc, amount, unit)?))?,
-        Some(Arg::Text(text)) => list.push(Arg::Text(text))?,
-        Some(Arg::Time(time)) => list.push(Arg::Time(time))?,
-        None => {}
+        Some(Arg::Value(amount)) => {
+            let time = keeping!(list; amount_of(alloc, amount, unit));
+            with(list, Arg::Time(time))
+        }
+        Some(Arg::Text(text)) => with(list, Arg::Text(text)),
+        Some(Arg::Time(time)) => with(list, Arg::Time(time)),
+        None => Ok(list),
     }
-    Ok(list)
 }
 
 // An argument, without what makes a value a time.
@@ -66,19 +70,18 @@ fn read_arg_part<'a>(alloc: Global, tokens: &'a [Symbol<'a>], limits: Limits) ->
 #[tactic(auto, using(ooo_grammar::specs::Steps::steps), unfolding(ooo_grammar::specs::Members::scale_or_arg))]
 fn read_scale_or_arg<'a>(
     alloc: Global,
-    mut list: Items<Arg>,
+    list: Items<Arg>,
     tokens: &'a [Symbol<'a>],
     limits: Limits,
 ) -> Read<'a, Items<Arg>>
     ensures { Gives (reads_at limits (scale_or_arg list) tokens.now) result }
 {
     if begins_with_unit_of_time(tokens) {
-        let (unit, rest) = read_unit_of_time(tokens, limits)?;
+        let (unit, rest) = keeping!(list; read_unit_of_time(tokens, limits));
         return Ok((with_unit(alloc, unit, list)?, rest));
     }
-    let (more, rest) = read_arg_part(alloc, tokens, limits)?;
-    list.push(more)?;
-    Ok((list, rest))
+    let (more, rest) = keeping!(list; read_arg_part(alloc, tokens, limits));
+    Ok((with(list, more)?, rest))
 }
 
 // A comma and one more argument.
@@ -86,19 +89,18 @@ fn read_scale_or_arg<'a>(
 fn read_next_arg<'a>(
     alloc: Global,
     ends_in_value: bool,
-    mut list: Items<Arg>,
+    list: Items<Arg>,
     tokens: &'a [Symbol<'a>],
     limits: Limits,
 ) -> Read<'a, Items<Arg>>
     ensures { Gives (reads_at limits (next_arg ends_in_value list) tokens.now) result }
 {
-    let (_, rest) = one(tokens, Terminal::Comma, limits)?;
+    let (_, rest) = keeping!(list; one(tokens, Terminal::Comma, limits));
     if ends_in_value {
         return read_scale_or_arg(alloc, list, rest, limits);
     }
-    let (more, rest) = read_arg_part(alloc, rest, limits)?;
-    list.push(more)?;
-    Ok((list, rest))
+    let (more, rest) = keeping!(list; read_arg_part(alloc, rest, limits));
+    Ok((with(list, more)?, rest))
 }
 
 // A comma and one more argument, by the last one.
@@ -121,8 +123,7 @@ fn read_args<'a>(alloc: Global, tokens: &'a [Symbol<'a>], limits: Limits) -> Rea
     ensures { Gives (reads_at limits args tokens.now) result }
 {
     let (first, mut rest) = read_arg_part(alloc, tokens, limits)?;
-    let mut list = Items::new(alloc);
-    list.push(first)?;
+    let mut list = with(Items::new(alloc), first)?;
     'turns: for _turn in 0..rest.len() {
         if !starts(rest, Terminal::Comma) {
             return Ok((list, rest));
@@ -157,8 +158,7 @@ pub(crate) fn read_some_args<'a>(
 {
     let (_, rest) = one(tokens, Terminal::Open, limits)?;
     let (list, rest) = read_args_inside(alloc, rest, limits)?;
-    let (_, rest) = one(rest, Terminal::Close, limits)?;
-    Ok((list, rest))
+    followed(list, Terminal::Close, rest, limits)
 }
 
 // Arguments in parentheses, or nothing.

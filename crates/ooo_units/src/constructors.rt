@@ -6,6 +6,7 @@ ghost use Rattle.ooo_units.specs.Loops.{next_item, one_more};
 ghost use Rattle.ooo_units.specs.Parts.{all_setups, braced_setups, further_params, maybe_inits, method_setup, named_params, quiet_setup, sensitive_setup, some_events, some_inits, thread_setup};
 
 use crate::arguments::read_args_inside;
+use crate::keeping::with;
 use crate::members::{read_next_param, read_parens_word};
 use crate::signs::{begins_with_arg, begins_with_setup, none_yet};
 use ooo_exprs::read_boxed_value;
@@ -13,7 +14,7 @@ use ooo_grammar::{
     Limits, Read, begins_with_member_word, one, one_inside, read_event_word, read_member_word,
     read_word, starts,
 };
-use ooo_statements::read_event;
+use ooo_statements::{followed, read_event};
 use ooo_syntax::{Binding, Constructor, Event, Init, Member, Param, Setup, Symbol, Terminal, Word};
 use sqlite_items::Items;
 use std::alloc::Global;
@@ -24,14 +25,14 @@ fn read_init<'a>(alloc: Global, tokens: &'a [Symbol<'a>], limits: Limits) -> Rea
     ensures { Gives (reads_at limits init tokens.now) result }
 {
     let (name, rest) = read_word(alloc, tokens, limits)?;
-    let (_, rest) = one(rest, Terminal::Open, limits)?;
+    let (_, rest) = keeping!(name; one(rest, Terminal::Open, limits));
     if !begins_with_arg(rest) {
-        let (_, rest) = one(rest, Terminal::Close, limits)?;
+        let (_, rest) = keeping!(name; one(rest, Terminal::Close, limits));
         let args = Items::new(alloc);
         return Ok((Init { name, args }, rest));
     }
-    let (args, rest) = read_args_inside(alloc, rest, limits)?;
-    let (_, rest) = one(rest, Terminal::Close, limits)?;
+    let (args, rest) = keeping!(name; read_args_inside(alloc, rest, limits));
+    let (args, rest) = keeping!(name; followed(args, Terminal::Close, rest, limits));
     Ok((Init { name, args }, rest))
 }
 
@@ -39,16 +40,15 @@ fn read_init<'a>(alloc: Global, tokens: &'a [Symbol<'a>], limits: Limits) -> Rea
 #[tactic(auto, using(ooo_grammar::specs::Steps::steps))]
 fn read_next_init<'a>(
     alloc: Global,
-    mut list: Items<Init>,
+    list: Items<Init>,
     tokens: &'a [Symbol<'a>],
     limits: Limits,
 ) -> Read<'a, Items<Init>>
     ensures { Gives (next_item limits Terminal.Comma init list tokens.now) result }
 {
-    let (_, rest) = one(tokens, Terminal::Comma, limits)?;
-    let (more, rest) = read_init(alloc, rest, limits)?;
-    list.push(more)?;
-    Ok((list, rest))
+    let (_, rest) = keeping!(list; one(tokens, Terminal::Comma, limits));
+    let (more, rest) = keeping!(list; read_init(alloc, rest, limits));
+    Ok((with(list, more)?, rest))
 }
 
 // Initialisers.
@@ -61,8 +61,7 @@ fn read_some_inits<'a>(
     ensures { Gives (reads_at limits some_inits tokens.now) result }
 {
     let (first, mut rest) = read_init(alloc, tokens, limits)?;
-    let mut list = Items::new(alloc);
-    list.push(first)?;
+    let mut list = with(Items::new(alloc), first)?;
     'turns: for _turn in 0..rest.len() {
         if !starts(rest, Terminal::Comma) {
             return Ok((list, rest));
@@ -110,8 +109,11 @@ fn read_bound_to<'a>(
 ) -> Read<'a, Binding>
     ensures { Gives (reads_at limits (bound_to instance port is_by_bind) tokens.now) result }
 {
-    let (channel, rest) = read_parens_word(alloc, tokens, limits)?;
-    let (_, rest) = one(rest, Terminal::Semicolon, limits)?;
+    let (channel, rest) = keeping!(instance, port; read_parens_word(alloc, tokens, limits));
+    let (channel, rest) = keeping!(
+        instance, port;
+        followed(channel, Terminal::Semicolon, rest, limits)
+    );
     Ok((
         Binding {
             instance,
@@ -134,8 +136,8 @@ fn read_by_bind<'a>(
 ) -> Read<'a, Binding>
     ensures { Gives (reads_at limits (by_bind instance port) tokens.now) result }
 {
-    let (_, rest) = one(tokens, Terminal::Dot, limits)?;
-    let (_, rest) = one(rest, Terminal::Bind, limits)?;
+    let (_, rest) = keeping!(instance, port; one(tokens, Terminal::Dot, limits));
+    let (_, rest) = keeping!(instance, port; one(rest, Terminal::Bind, limits));
     read_bound_to(alloc, instance, port, true, rest, limits)
 }
 
@@ -166,12 +168,12 @@ pub(crate) fn read_binding<'a>(
 ) -> Read<'a, Binding>
     ensures { Gives (reads_at limits (binding instance) tokens.now) result }
 {
-    let (_, rest) = one(tokens, Terminal::Dot, limits)?;
+    let (_, rest) = keeping!(instance; one(tokens, Terminal::Dot, limits));
     if begins_with_member_word(rest) {
-        let (port, rest) = read_member_word(alloc, rest, limits)?;
+        let (port, rest) = keeping!(instance; read_member_word(alloc, rest, limits));
         return read_after_port(alloc, instance, port, rest, limits);
     }
-    let (port, rest) = read_event_word(alloc, rest, limits)?;
+    let (port, rest) = keeping!(instance; read_event_word(alloc, rest, limits));
     read_by_bind(alloc, instance, port, rest, limits)
 }
 
@@ -185,8 +187,7 @@ pub(crate) fn read_word_in_parens<'a>(
     ensures { Gives (reads_at limits word_in_parens tokens.now) result }
 {
     let (word, rest) = read_parens_word(alloc, tokens, limits)?;
-    let (_, rest) = one(rest, Terminal::Semicolon, limits)?;
-    Ok((word, rest))
+    followed(word, Terminal::Semicolon, rest, limits)
 }
 
 // A binding or an assignment, after its first word.
@@ -203,9 +204,9 @@ fn read_setup_tail<'a>(
         let (binding, rest) = read_binding(alloc, word, tokens, limits)?;
         return Ok((Setup::Bind(binding), rest));
     }
-    let (_, rest) = one(tokens, Terminal::Assign, limits)?;
-    let (value, rest) = read_boxed_value(alloc, rest, limits)?;
-    let (_, rest) = one(rest, Terminal::Semicolon, limits)?;
+    let (_, rest) = keeping!(word; one(tokens, Terminal::Assign, limits));
+    let (value, rest) = keeping!(word; read_boxed_value(alloc, rest, limits));
+    let (value, rest) = keeping!(word; followed(value, Terminal::Semicolon, rest, limits));
     Ok((Setup::Set(word, value), rest))
 }
 
@@ -213,16 +214,15 @@ fn read_setup_tail<'a>(
 #[tactic(auto, using(ooo_grammar::specs::Steps::steps))]
 fn read_next_event<'a>(
     alloc: Global,
-    mut list: Items<Event>,
+    list: Items<Event>,
     tokens: &'a [Symbol<'a>],
     limits: Limits,
 ) -> Read<'a, Items<Event>>
     ensures { Gives (next_item limits Terminal.ShiftLeft event list tokens.now) result }
 {
-    let (_, rest) = one(tokens, Terminal::ShiftLeft, limits)?;
-    let (more, rest) = read_event(alloc, rest, limits)?;
-    list.push(more)?;
-    Ok((list, rest))
+    let (_, rest) = keeping!(list; one(tokens, Terminal::ShiftLeft, limits));
+    let (more, rest) = keeping!(list; read_event(alloc, rest, limits));
+    Ok((with(list, more)?, rest))
 }
 
 // Events and `<<` between them.
@@ -235,8 +235,7 @@ fn read_some_events<'a>(
     ensures { Gives (reads_at limits some_events tokens.now) result }
 {
     let (first, mut rest) = read_event(alloc, tokens, limits)?;
-    let mut list = Items::new(alloc);
-    list.push(first)?;
+    let mut list = with(Items::new(alloc), first)?;
     'turns: for _turn in 0..rest.len() {
         if !starts(rest, Terminal::ShiftLeft) {
             return Ok((list, rest));
@@ -258,8 +257,7 @@ fn read_events_listed<'a>(
     ensures { Gives (reads_at limits events_listed tokens.now) result }
 {
     let (list, rest) = read_some_events(alloc, tokens, limits)?;
-    let (_, rest) = one(rest, Terminal::Semicolon, limits)?;
-    Ok((list, rest))
+    followed(list, Terminal::Semicolon, rest, limits)
 }
 
 // A thread.
@@ -334,15 +332,14 @@ fn read_setup<'a>(alloc: Global, tokens: &'a [Symbol<'a>], limits: Limits) -> Re
 #[tactic(auto, using(ooo_grammar::specs::Steps::steps))]
 fn read_one_more_setup<'a>(
     alloc: Global,
-    mut list: Items<Setup>,
+    list: Items<Setup>,
     tokens: &'a [Symbol<'a>],
     limits: Limits,
 ) -> Read<'a, Items<Setup>>
     ensures { Gives (one_more limits setup list tokens.now) result }
 {
-    let (more, rest) = read_setup(alloc, tokens, limits)?;
-    list.push(more)?;
-    Ok((list, rest))
+    let (more, rest) = keeping!(list; read_setup(alloc, tokens, limits));
+    Ok((with(list, more)?, rest))
 }
 
 // The statements of a constructor.
@@ -389,8 +386,7 @@ fn read_braced_setups<'a>(
 {
     let (_, rest) = one(tokens, Terminal::OpenBrace, limits)?;
     let (list, rest) = read_all_setups_inside(alloc, rest, limits)?;
-    let (_, rest) = one(rest, Terminal::CloseBrace, limits)?;
-    Ok((list, rest))
+    followed(list, Terminal::CloseBrace, rest, limits)
 }
 
 // The statements of a constructor, and a `;` if one follows.
@@ -406,7 +402,7 @@ fn read_setups<'a>(
     if !starts(rest, Terminal::Semicolon) {
         return Ok((list, rest));
     }
-    let (_, rest) = one(rest, Terminal::Semicolon, limits)?;
+    let (_, rest) = keeping!(list; one(rest, Terminal::Semicolon, limits));
     Ok((list, rest))
 }
 
@@ -421,8 +417,8 @@ pub(crate) fn read_named_constructor<'a>(
 {
     let (_, rest) = one(tokens, Terminal::ScCtor, limits)?;
     let (word, rest) = read_parens_word(alloc, rest, limits)?;
-    let (inits, rest) = read_maybe_inits(alloc, rest, limits)?;
-    let (setups, rest) = read_setups(alloc, rest, limits)?;
+    let (inits, rest) = keeping!(word; read_maybe_inits(alloc, rest, limits));
+    let (setups, rest) = keeping!(word, inits; read_setups(alloc, rest, limits));
     Ok((
         Member::Constructor(Constructor::Named(word, inits, setups)),
         rest,
@@ -460,7 +456,7 @@ fn read_named_params<'a>(
     ensures { Gives (reads_at limits named_params tokens.now) result }
 {
     let (name, rest) = read_word(alloc, tokens, limits)?;
-    let (params, rest) = read_further_params(alloc, rest, limits)?;
+    let (params, rest) = keeping!(name; read_further_params(alloc, rest, limits));
     Ok(((name, params), rest))
 }
 
@@ -486,8 +482,7 @@ fn read_name_and_params<'a>(
     ensures { Gives (reads_at limits name_and_params tokens.now) result }
 {
     let (named, rest) = read_named_params_inside(alloc, tokens, limits)?;
-    let (_, rest) = one(rest, Terminal::Close, limits)?;
-    Ok((named, rest))
+    followed(named, Terminal::Close, rest, limits)
 }
 
 // A constructor that begins with the module's name, after it.
@@ -500,11 +495,11 @@ pub(crate) fn read_written_constructor<'a>(
 ) -> Read<'a, Member>
     ensures { Gives (reads_at limits (written_constructor word) tokens.now) result }
 {
-    let (_, rest) = one(tokens, Terminal::Open, limits)?;
-    let (_, rest) = one_inside(rest, Terminal::ScModuleName, limits)?;
-    let ((name, params), rest) = read_name_and_params(alloc, rest, limits)?;
-    let (inits, rest) = read_maybe_inits(alloc, rest, limits)?;
-    let (setups, rest) = read_setups(alloc, rest, limits)?;
+    let (_, rest) = keeping!(word; one(tokens, Terminal::Open, limits));
+    let (_, rest) = keeping!(word; one_inside(rest, Terminal::ScModuleName, limits));
+    let ((name, params), rest) = keeping!(word; read_name_and_params(alloc, rest, limits));
+    let (inits, rest) = keeping!(word, name, params; read_maybe_inits(alloc, rest, limits));
+    let (setups, rest) = keeping!(word, name, params, inits; read_setups(alloc, rest, limits));
     Ok((
         Member::Constructor(Constructor::Written(word, name, params, inits, setups)),
         rest,

@@ -6,8 +6,22 @@
 //! nothing that it has is refused.
 #![tactic(auto)]
 
+// What is read while values that were read before are kept: where nothing is, they go.
+macro_rules! keeping {
+    ($($kept:ident),+; $read:expr) => {
+        match $read {
+            Ok(found) => found,
+            Err(error) => {
+                $(crate::keeping::discard($kept);)+
+                return Err(error);
+            }
+        }
+    };
+}
+
 mod arguments;
 mod constructors;
+mod keeping;
 mod main_entries;
 mod members;
 mod signs;

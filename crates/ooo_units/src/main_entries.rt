@@ -1,4 +1,4 @@
-ghost use Rattle.std.specs.Prelude.{◌≡◌, ◌∷◌, [], IfOk};
+ghost use Rattle.std.specs.Prelude.{◌≡◌, ◌∷◌, ◌++◌, [], IfOk};
 ghost use Rattle.ooo_grammar.specs.Codes.{deeper};
 ghost use Rattle.ooo_grammar.specs.Gives.{Gives, reads_at};
 ghost use Rattle.ooo_grammar.specs.Units.{clock, clock_tail, clocks, instance_of, instances_of, main_channel, main_channels, main_entry};
@@ -7,11 +7,12 @@ ghost use Rattle.ooo_units.specs.Parts.{clock_parts, main_entries, some_clocks, 
 
 use crate::arguments::{read_maybe_args, read_some_args};
 use crate::constructors::read_binding;
+use crate::keeping::with;
 use crate::members::{read_channel_word, read_constant, read_of_type};
 use crate::signs::{begins_with_channel, begins_with_constant, begins_with_main_entry, none_yet};
 use ooo_grammar::{Limits, Read, begins_with_word, one, read_text, read_word, starts};
-use ooo_statements::read_boxed_timed;
-use ooo_syntax::{ChannelWord, MainChannel, MainItem, Mark, Symbol, Terminal, TypeName, Word};
+use ooo_statements::{followed, read_boxed_timed};
+use ooo_syntax::{Arg, ChannelWord, MainChannel, MainItem, Mark, Symbol, Terminal, TypeName, Word};
 use ooo_value::Name;
 use sqlite_items::Items;
 use std::alloc::{AllocError, Global};
@@ -30,7 +31,7 @@ fn read_main_channel<'a>(
     ensures { Gives (reads_at limits (main_channel channel form) tokens.now) result }
 {
     let (name, rest) = read_word(alloc, tokens, limits)?;
-    let (args, rest) = read_maybe_args(alloc, rest, limits)?;
+    let (args, rest) = keeping!(name; read_maybe_args(alloc, rest, limits));
     Ok((
         MainItem::Channel(MainChannel {
             channel,
@@ -46,7 +47,7 @@ fn read_main_channel<'a>(
 #[tactic(auto, using(ooo_grammar::specs::Steps::steps))]
 fn read_next_main_channel<'a>(
     alloc: Global,
-    mut list: Items<MainItem>,
+    list: Items<MainItem>,
     channel: ChannelWord,
     form: TypeName,
     tokens: &'a [Symbol<'a>],
@@ -55,10 +56,9 @@ fn read_next_main_channel<'a>(
     ensures { let c = main_channel channel form in
         Gives (next_item limits Terminal.Comma c list tokens.now) result }
 {
-    let (_, rest) = one(tokens, Terminal::Comma, limits)?;
-    let (more, rest) = read_main_channel(alloc, channel, form, rest, limits)?;
-    list.push(more)?;
-    Ok((list, rest))
+    let (_, rest) = keeping!(list; one(tokens, Terminal::Comma, limits));
+    let (more, rest) = keeping!(list; read_main_channel(alloc, channel, form, rest, limits));
+    Ok((with(list, more)?, rest))
 }
 
 // Channels of one type.
@@ -73,8 +73,7 @@ fn read_some_main_channels<'a>(
     ensures { Gives (reads_at limits (some_main_channels channel form) tokens.now) result }
 {
     let (first, mut rest) = read_main_channel(alloc, channel, form, tokens, limits)?;
-    let mut list = Items::new(alloc);
-    list.push(first)?;
+    let mut list = with(Items::new(alloc), first)?;
     'turns: for _turn in 0..rest.len() {
         if !starts(rest, Terminal::Comma) {
             return Ok((list, rest));
@@ -98,8 +97,7 @@ fn read_main_channels<'a>(
     let (channel, rest) = read_channel_word(tokens, limits)?;
     let (form, rest) = read_of_type(rest, limits)?;
     let (list, rest) = read_some_main_channels(alloc, channel, form, rest, limits)?;
-    let (_, rest) = one(rest, Terminal::Semicolon, limits)?;
-    Ok((list, rest))
+    followed(list, Terminal::Semicolon, rest, limits)
 }
 
 // ---- clocks
@@ -115,9 +113,9 @@ fn read_clock_parts<'a>(
 ) -> Read<'a, MainItem>
     ensures { Gives (reads_at limits (clock_parts first word) tokens.now) result }
 {
-    let (text, rest) = read_text(alloc, tokens, limits)?;
-    let (_, rest) = one(rest, Terminal::Comma, limits)?;
-    let (time, rest) = read_boxed_timed(alloc, rest, limits)?;
+    let (text, rest) = keeping!(word; read_text(alloc, tokens, limits));
+    let (_, rest) = keeping!(word, text; one(rest, Terminal::Comma, limits));
+    let (time, rest) = keeping!(word, text; read_boxed_timed(alloc, rest, limits));
     Ok((MainItem::Clock(first.position, word, text, time), rest))
 }
 
@@ -146,10 +144,9 @@ fn read_clock_tail<'a>(
 ) -> Read<'a, MainItem>
     ensures { Gives (reads_at limits (clock_tail first word) tokens.now) result }
 {
-    let (_, rest) = one(tokens, Terminal::Open, limits)?;
+    let (_, rest) = keeping!(word; one(tokens, Terminal::Open, limits));
     let (clock, rest) = read_clock_parts_inside(alloc, first, word, rest, limits)?;
-    let (_, rest) = one(rest, Terminal::Close, limits)?;
-    Ok((clock, rest))
+    followed(clock, Terminal::Close, rest, limits)
 }
 
 // A clock, after `sc_clock`.
@@ -170,17 +167,16 @@ fn read_clock<'a>(
 #[tactic(auto, using(ooo_grammar::specs::Steps::steps))]
 fn read_next_clock<'a>(
     alloc: Global,
-    mut list: Items<MainItem>,
+    list: Items<MainItem>,
     first: Mark,
     tokens: &'a [Symbol<'a>],
     limits: Limits,
 ) -> Read<'a, Items<MainItem>>
     ensures { Gives (next_item limits Terminal.Comma (clock first) list tokens.now) result }
 {
-    let (_, rest) = one(tokens, Terminal::Comma, limits)?;
-    let (more, rest) = read_clock(alloc, first, rest, limits)?;
-    list.push(more)?;
-    Ok((list, rest))
+    let (_, rest) = keeping!(list; one(tokens, Terminal::Comma, limits));
+    let (more, rest) = keeping!(list; read_clock(alloc, first, rest, limits));
+    Ok((with(list, more)?, rest))
 }
 
 // Clocks.
@@ -194,8 +190,7 @@ fn read_some_clocks<'a>(
     ensures { Gives (reads_at limits (some_clocks first) tokens.now) result }
 {
     let (clock, mut rest) = read_clock(alloc, first, tokens, limits)?;
-    let mut list = Items::new(alloc);
-    list.push(clock)?;
+    let mut list = with(Items::new(alloc), clock)?;
     'turns: for _turn in 0..rest.len() {
         if !starts(rest, Terminal::Comma) {
             return Ok((list, rest));
@@ -218,8 +213,7 @@ fn read_clocks<'a>(
 {
     let (first, rest) = one(tokens, Terminal::ScClock, limits)?;
     let (list, rest) = read_some_clocks(alloc, first, rest, limits)?;
-    let (_, rest) = one(rest, Terminal::Semicolon, limits)?;
-    Ok((list, rest))
+    followed(list, Terminal::Semicolon, rest, limits)
 }
 
 // ---- instances
@@ -235,6 +229,19 @@ fn copy_of(alloc: Global, word: &Word) -> Result<Word, AllocError>
     })
 }
 
+// An instance of a module.
+fn instance(
+    alloc: Global,
+    module_name: &Word,
+    name: Word,
+    args: Items<Arg>,
+) -> Result<MainItem, AllocError>
+    ensures { IfOk result (λ item. item ≡ MainItem.Instance module_name.now name args) }
+{
+    let module_name = keeping!(name, args; copy_of(alloc, module_name));
+    Ok(MainItem::Instance(module_name, name, args))
+}
+
 // An instance, after the word of its module.
 #[tactic(auto, using(ooo_grammar::specs::Steps::steps), unfolding(ooo_grammar::specs::Units::instance_of))]
 fn read_instance_of<'a>(
@@ -246,16 +253,15 @@ fn read_instance_of<'a>(
     ensures { Gives (reads_at limits (instance_of module_name.now) tokens.now) result }
 {
     let (name, rest) = read_word(alloc, tokens, limits)?;
-    let (args, rest) = read_some_args(alloc, rest, limits)?;
-    let module_name = copy_of(alloc, module_name)?;
-    Ok((MainItem::Instance(module_name, name, args), rest))
+    let (args, rest) = keeping!(name; read_some_args(alloc, rest, limits));
+    Ok((instance(alloc, module_name, name, args)?, rest))
 }
 
 // A comma and one more instance.
 #[tactic(auto, using(ooo_grammar::specs::Steps::steps))]
 fn read_next_instance<'a>(
     alloc: Global,
-    mut list: Items<MainItem>,
+    list: Items<MainItem>,
     module_name: &Word,
     tokens: &'a [Symbol<'a>],
     limits: Limits,
@@ -263,10 +269,9 @@ fn read_next_instance<'a>(
     ensures { let c = instance_of module_name.now in
         Gives (next_item limits Terminal.Comma c list tokens.now) result }
 {
-    let (_, rest) = one(tokens, Terminal::Comma, limits)?;
-    let (more, rest) = read_instance_of(alloc, module_name, rest, limits)?;
-    list.push(more)?;
-    Ok((list, rest))
+    let (_, rest) = keeping!(list; one(tokens, Terminal::Comma, limits));
+    let (more, rest) = keeping!(list; read_instance_of(alloc, module_name, rest, limits));
+    Ok((with(list, more)?, rest))
 }
 
 // Instances of one module.
@@ -280,8 +285,7 @@ fn read_some_instances<'a>(
     ensures { Gives (reads_at limits (some_instances module_name.now) tokens.now) result }
 {
     let (first, mut rest) = read_instance_of(alloc, module_name, tokens, limits)?;
-    let mut list = Items::new(alloc);
-    list.push(first)?;
+    let mut list = with(Items::new(alloc), first)?;
     'turns: for _turn in 0..rest.len() {
         if !starts(rest, Terminal::Comma) {
             return Ok((list, rest));
@@ -304,8 +308,7 @@ fn read_instances_of<'a>(
     ensures { Gives (reads_at limits (instances_of module_name.now) tokens.now) result }
 {
     let (list, rest) = read_some_instances(alloc, module_name, tokens, limits)?;
-    let (_, rest) = one(rest, Terminal::Semicolon, limits)?;
-    Ok((list, rest))
+    followed(list, Terminal::Semicolon, rest, limits)
 }
 
 // ---- all of them
@@ -314,9 +317,7 @@ fn read_instances_of<'a>(
 fn only(alloc: Global, item: MainItem) -> Result<Items<MainItem>, AllocError>
     ensures { IfOk result (λ list. list ≡ item ∷ []) }
 {
-    let mut list = Items::new(alloc);
-    list.push(item)?;
-    Ok(list)
+    with(Items::new(alloc), item)
 }
 
 // The declarations up to the next `;`, or a binding.
@@ -346,19 +347,26 @@ fn read_main_entry<'a>(
     Ok((only(alloc, MainItem::Bind(binding))?, rest))
 }
 
+// Both lists one after the other.
+fn joined(mut list: Items<MainItem>, more: Items<MainItem>) -> Result<Items<MainItem>, AllocError>
+    ensures { IfOk result (λ all. all ≡ list ++ more) }
+{
+    keeping!(list; list.append(more));
+    Ok(list)
+}
+
 // The declarations up to one more `;`, or one more binding.
 #[tactic(auto, using(ooo_grammar::specs::Steps::steps))]
 fn read_one_more_main_entry<'a>(
     alloc: Global,
-    mut list: Items<MainItem>,
+    list: Items<MainItem>,
     tokens: &'a [Symbol<'a>],
     limits: Limits,
 ) -> Read<'a, Items<MainItem>>
     ensures { Gives (more_of limits main_entry list tokens.now) result }
 {
-    let (more, rest) = read_main_entry(alloc, tokens, limits)?;
-    list.append(more)?;
-    Ok((list, rest))
+    let (more, rest) = keeping!(list; read_main_entry(alloc, tokens, limits));
+    Ok((joined(list, more)?, rest))
 }
 
 /// The declarations and bindings of `sc_main`.

@@ -9,6 +9,7 @@ ghost use Rattle.ooo_units.specs.Parts.{braced_members, clocks_member, events_me
 
 use crate::arguments::read_args_inside;
 use crate::constructors::{read_named_constructor, read_word_in_parens, read_written_constructor};
+use crate::keeping::with;
 use crate::signs::{
     begins_with_channel, begins_with_member, begins_with_port, channel_of, none_yet, port_of,
 };
@@ -16,7 +17,7 @@ use ooo_exprs::{read_boxed_inner_value, read_boxed_value};
 use ooo_grammar::{
     Limits, Read, ReadError, begins_with_type, next, one, read_type, read_word, starts,
 };
-use ooo_statements::read_body;
+use ooo_statements::{followed, read_body};
 use ooo_syntax::{
     ChannelWord, Channels, Children, Constant, Field, FieldForm, Fields, Function, Member, Module,
     Param, Part, PortWord, Ports, ResultForm, Symbol, Terminal, TypeName, Word,
@@ -47,8 +48,7 @@ pub(crate) fn read_parens_word<'a>(
 {
     let (_, rest) = one(tokens, Terminal::Open, limits)?;
     let (word, rest) = read_word_inside(alloc, rest, limits)?;
-    let (_, rest) = one(rest, Terminal::Close, limits)?;
-    Ok((word, rest))
+    followed(word, Terminal::Close, rest, limits)
 }
 
 // A constant, after `const`.
@@ -63,9 +63,9 @@ fn read_constant_tail<'a>(
 {
     let (form, rest) = read_type(tokens, limits)?;
     let (name, rest) = read_word(alloc, rest, limits)?;
-    let (_, rest) = one(rest, Terminal::Assign, limits)?;
-    let (value, rest) = read_boxed_value(alloc, rest, limits)?;
-    let (_, rest) = one(rest, Terminal::Semicolon, limits)?;
+    let (_, rest) = keeping!(name; one(rest, Terminal::Assign, limits));
+    let (value, rest) = keeping!(name; read_boxed_value(alloc, rest, limits));
+    let (value, rest) = keeping!(name; followed(value, Terminal::Semicolon, rest, limits));
     Ok((
         Constant {
             is_static,
@@ -107,7 +107,7 @@ fn read_field_form<'a>(
     if starts(tokens, Terminal::OpenBracket) {
         let (_, rest) = one(tokens, Terminal::OpenBracket, limits)?;
         let (length, rest) = read_boxed_inner_value(alloc, rest, limits)?;
-        let (_, rest) = one(rest, Terminal::CloseBracket, limits)?;
+        let (length, rest) = followed(length, Terminal::CloseBracket, rest, limits)?;
         return Ok((FieldForm::Length(length), rest));
     }
     if starts(tokens, Terminal::Assign) {
@@ -124,7 +124,7 @@ fn read_field<'a>(alloc: Global, tokens: &'a [Symbol<'a>], limits: Limits) -> Re
     ensures { Gives (reads_at limits field tokens.now) result }
 {
     let (name, rest) = read_word(alloc, tokens, limits)?;
-    let (form, rest) = read_field_form(alloc, rest, limits)?;
+    let (form, rest) = keeping!(name; read_field_form(alloc, rest, limits));
     Ok((Field { name, form }, rest))
 }
 
@@ -132,16 +132,15 @@ fn read_field<'a>(alloc: Global, tokens: &'a [Symbol<'a>], limits: Limits) -> Re
 #[tactic(auto, using(ooo_grammar::specs::Steps::steps))]
 fn read_next_field<'a>(
     alloc: Global,
-    mut list: Items<Field>,
+    list: Items<Field>,
     tokens: &'a [Symbol<'a>],
     limits: Limits,
 ) -> Read<'a, Items<Field>>
     ensures { Gives (next_item limits Terminal.Comma field list tokens.now) result }
 {
-    let (_, rest) = one(tokens, Terminal::Comma, limits)?;
-    let (more, rest) = read_field(alloc, rest, limits)?;
-    list.push(more)?;
-    Ok((list, rest))
+    let (_, rest) = keeping!(list; one(tokens, Terminal::Comma, limits));
+    let (more, rest) = keeping!(list; read_field(alloc, rest, limits));
+    Ok((with(list, more)?, rest))
 }
 
 // More fields, after the first one.
@@ -154,8 +153,8 @@ fn read_further_fields<'a>(
 ) -> Read<'a, Items<Field>>
     ensures { Gives (reads_at limits (further_fields first) tokens.now) result }
 {
-    let (mut list, mut rest) = none_yet(alloc, tokens);
-    list.push(first)?;
+    let (none, mut rest) = none_yet(alloc, tokens);
+    let mut list = with(none, first)?;
     'turns: for _turn in 0..rest.len() {
         if !starts(rest, Terminal::Comma) {
             return Ok((list, rest));
@@ -178,8 +177,7 @@ fn read_more_fields<'a>(
     ensures { Gives (reads_at limits (more_fields first) tokens.now) result }
 {
     let (list, rest) = read_further_fields(alloc, first, tokens, limits)?;
-    let (_, rest) = one(rest, Terminal::Semicolon, limits)?;
-    Ok((list, rest))
+    followed(list, Terminal::Semicolon, rest, limits)
 }
 
 // A declaration of one field after `const`: with a value it is a constant.
@@ -195,8 +193,7 @@ fn const_field(alloc: Global, form: TypeName, field: Field) -> Result<Member, Al
             value,
         }));
     }
-    let mut fields = Items::new(alloc);
-    fields.push(Field { name, form: tail })?;
+    let fields = with(Items::new(alloc), Field { name, form: tail })?;
     Ok(Member::Fields(Fields {
         is_const: true,
         form,
@@ -245,16 +242,15 @@ fn read_const_fields<'a>(
 #[tactic(auto, using(ooo_grammar::specs::Steps::steps))]
 fn read_next_word<'a>(
     alloc: Global,
-    mut list: Items<Word>,
+    list: Items<Word>,
     tokens: &'a [Symbol<'a>],
     limits: Limits,
 ) -> Read<'a, Items<Word>>
     ensures { Gives (next_item limits Terminal.Comma word list tokens.now) result }
 {
-    let (_, rest) = one(tokens, Terminal::Comma, limits)?;
-    let (more, rest) = read_word(alloc, rest, limits)?;
-    list.push(more)?;
-    Ok((list, rest))
+    let (_, rest) = keeping!(list; one(tokens, Terminal::Comma, limits));
+    let (more, rest) = keeping!(list; read_word(alloc, rest, limits));
+    Ok((with(list, more)?, rest))
 }
 
 // Words.
@@ -267,8 +263,7 @@ fn read_some_words<'a>(
     ensures { Gives (reads_at limits some_words tokens.now) result }
 {
     let (first, mut rest) = read_word(alloc, tokens, limits)?;
-    let mut list = Items::new(alloc);
-    list.push(first)?;
+    let mut list = with(Items::new(alloc), first)?;
     'turns: for _turn in 0..rest.len() {
         if !starts(rest, Terminal::Comma) {
             return Ok((list, rest));
@@ -286,8 +281,7 @@ fn read_words<'a>(alloc: Global, tokens: &'a [Symbol<'a>], limits: Limits) -> Re
     ensures { Gives (reads_at limits words tokens.now) result }
 {
     let (list, rest) = read_some_words(alloc, tokens, limits)?;
-    let (_, rest) = one(rest, Terminal::Semicolon, limits)?;
-    Ok((list, rest))
+    followed(list, Terminal::Semicolon, rest, limits)
 }
 
 // A type in angle brackets.
@@ -358,9 +352,9 @@ fn read_part<'a>(alloc: Global, tokens: &'a [Symbol<'a>], limits: Limits) -> Rea
     if !starts(rest, Terminal::OpenBrace) {
         return Ok((Part { name, args: None }, rest));
     }
-    let (_, rest) = one(rest, Terminal::OpenBrace, limits)?;
-    let (args, rest) = read_args_inside(alloc, rest, limits)?;
-    let (_, rest) = one(rest, Terminal::CloseBrace, limits)?;
+    let (_, rest) = keeping!(name; one(rest, Terminal::OpenBrace, limits));
+    let (args, rest) = keeping!(name; read_args_inside(alloc, rest, limits));
+    let (args, rest) = keeping!(name; followed(args, Terminal::CloseBrace, rest, limits));
     Ok((
         Part {
             name,
@@ -374,16 +368,15 @@ fn read_part<'a>(alloc: Global, tokens: &'a [Symbol<'a>], limits: Limits) -> Rea
 #[tactic(auto, using(ooo_grammar::specs::Steps::steps))]
 fn read_next_part<'a>(
     alloc: Global,
-    mut list: Items<Part>,
+    list: Items<Part>,
     tokens: &'a [Symbol<'a>],
     limits: Limits,
 ) -> Read<'a, Items<Part>>
     ensures { Gives (next_item limits Terminal.Comma part list tokens.now) result }
 {
-    let (_, rest) = one(tokens, Terminal::Comma, limits)?;
-    let (more, rest) = read_part(alloc, rest, limits)?;
-    list.push(more)?;
-    Ok((list, rest))
+    let (_, rest) = keeping!(list; one(tokens, Terminal::Comma, limits));
+    let (more, rest) = keeping!(list; read_part(alloc, rest, limits));
+    Ok((with(list, more)?, rest))
 }
 
 // Parts.
@@ -396,8 +389,7 @@ fn read_some_parts<'a>(
     ensures { Gives (reads_at limits some_parts tokens.now) result }
 {
     let (first, mut rest) = read_part(alloc, tokens, limits)?;
-    let mut list = Items::new(alloc);
-    list.push(first)?;
+    let mut list = with(Items::new(alloc), first)?;
     'turns: for _turn in 0..rest.len() {
         if !starts(rest, Terminal::Comma) {
             return Ok((list, rest));
@@ -415,8 +407,7 @@ fn read_parts<'a>(alloc: Global, tokens: &'a [Symbol<'a>], limits: Limits) -> Re
     ensures { Gives (reads_at limits parts tokens.now) result }
 {
     let (list, rest) = read_some_parts(alloc, tokens, limits)?;
-    let (_, rest) = one(rest, Terminal::Semicolon, limits)?;
-    Ok((list, rest))
+    followed(list, Terminal::Semicolon, rest, limits)
 }
 
 // Channels.
@@ -455,16 +446,15 @@ pub(crate) fn read_param<'a>(
 #[tactic(auto, using(ooo_grammar::specs::Steps::steps))]
 pub(crate) fn read_next_param<'a>(
     alloc: Global,
-    mut list: Items<Param>,
+    list: Items<Param>,
     tokens: &'a [Symbol<'a>],
     limits: Limits,
 ) -> Read<'a, Items<Param>>
     ensures { Gives (next_item limits Terminal.Comma param list tokens.now) result }
 {
-    let (_, rest) = one(tokens, Terminal::Comma, limits)?;
-    let (more, rest) = read_param(alloc, rest, limits)?;
-    list.push(more)?;
-    Ok((list, rest))
+    let (_, rest) = keeping!(list; one(tokens, Terminal::Comma, limits));
+    let (more, rest) = keeping!(list; read_param(alloc, rest, limits));
+    Ok((with(list, more)?, rest))
 }
 
 // Parameters.
@@ -477,8 +467,7 @@ fn read_some_params<'a>(
     ensures { Gives (reads_at limits some_params tokens.now) result }
 {
     let (first, mut rest) = read_param(alloc, tokens, limits)?;
-    let mut list = Items::new(alloc);
-    list.push(first)?;
+    let mut list = with(Items::new(alloc), first)?;
     'turns: for _turn in 0..rest.len() {
         if !starts(rest, Terminal::Comma) {
             return Ok((list, rest));
@@ -528,8 +517,7 @@ fn read_params<'a>(
 {
     let (_, rest) = one(tokens, Terminal::Open, limits)?;
     let (list, rest) = read_listed_params_inside(alloc, rest, limits)?;
-    let (_, rest) = one(rest, Terminal::Close, limits)?;
-    Ok((list, rest))
+    followed(list, Terminal::Close, rest, limits)
 }
 
 // A function, after its name.
@@ -543,8 +531,8 @@ fn read_function_tail<'a>(
 ) -> Read<'a, Member>
     ensures { Gives (reads_at limits (function_tail gives word) tokens.now) result }
 {
-    let (params, rest) = read_params(alloc, tokens, limits)?;
-    let (body, rest) = read_body(alloc, rest, limits)?;
+    let (params, rest) = keeping!(word; read_params(alloc, tokens, limits));
+    let (body, rest) = keeping!(word, params; read_body(alloc, rest, limits));
     Ok((
         Member::Function(Function {
             result: gives,
@@ -570,7 +558,7 @@ fn read_typed_tail<'a>(
     if starts(tokens, Terminal::Open) {
         return read_function_tail(alloc, ResultForm::Value(form), word, tokens, limits);
     }
-    let (tail, rest) = read_field_form(alloc, tokens, limits)?;
+    let (tail, rest) = keeping!(word; read_field_form(alloc, tokens, limits));
     let first = Field {
         name: word,
         form: tail,
@@ -613,7 +601,7 @@ fn read_worded_tail<'a>(
     if starts(tokens, Terminal::Open) {
         return read_written_constructor(alloc, word, tokens, limits);
     }
-    let (parts, rest) = read_parts(alloc, tokens, limits)?;
+    let (parts, rest) = keeping!(word; read_parts(alloc, tokens, limits));
     Ok((
         Member::Children(Children {
             module_name: word,
@@ -773,15 +761,14 @@ fn read_member<'a>(alloc: Global, tokens: &'a [Symbol<'a>], limits: Limits) -> R
 #[tactic(auto, using(ooo_grammar::specs::Steps::steps))]
 fn read_one_more_member<'a>(
     alloc: Global,
-    mut list: Items<Member>,
+    list: Items<Member>,
     tokens: &'a [Symbol<'a>],
     limits: Limits,
 ) -> Read<'a, Items<Member>>
     ensures { Gives (one_more limits member list tokens.now) result }
 {
-    let (more, rest) = read_member(alloc, tokens, limits)?;
-    list.push(more)?;
-    Ok((list, rest))
+    let (more, rest) = keeping!(list; read_member(alloc, tokens, limits));
+    Ok((with(list, more)?, rest))
 }
 
 // Members.
@@ -828,8 +815,7 @@ fn read_braced_members<'a>(
 {
     let (_, rest) = one(tokens, Terminal::OpenBrace, limits)?;
     let (list, rest) = read_members_inside(alloc, rest, limits)?;
-    let (_, rest) = one(rest, Terminal::CloseBrace, limits)?;
-    Ok((list, rest))
+    followed(list, Terminal::CloseBrace, rest, limits)
 }
 
 // A module.
@@ -843,7 +829,7 @@ pub(crate) fn read_module_form<'a>(
 {
     let (_, rest) = one(tokens, Terminal::ScModule, limits)?;
     let (name, rest) = read_parens_word(alloc, rest, limits)?;
-    let (members, rest) = read_braced_members(alloc, rest, limits)?;
-    let (_, rest) = one(rest, Terminal::Semicolon, limits)?;
+    let (members, rest) = keeping!(name; read_braced_members(alloc, rest, limits));
+    let (members, rest) = keeping!(name; followed(members, Terminal::Semicolon, rest, limits));
     Ok((Module { name, members }, rest))
 }

@@ -6,6 +6,7 @@ ghost use Rattle.ooo_grammar.specs.Units.{library_table, main, main_body, main_c
 ghost use Rattle.ooo_units.specs.Loops.{one_more};
 ghost use Rattle.ooo_units.specs.Parts.{array_end, array_values, count_word, maybe_returned, maybe_start, maybe_word, pointer_values, unit_items};
 
+use crate::keeping::with;
 use crate::main_entries::read_main_entries;
 use crate::members::{read_constant, read_module_form};
 use crate::signs::{begins_with_unit_item, library_of, none_yet};
@@ -13,7 +14,7 @@ use ooo_grammar::{
     Limits, Read, ReadError, begins_with_word, next, one, one_inside, read_literal, read_word,
     starts,
 };
-use ooo_statements::read_boxed_timed_inside;
+use ooo_statements::{followed, read_boxed_timed_inside};
 use ooo_syntax::{
     Library, Main, MainValues, Mark, Number, StartForm, Symbol, Terminal, Unit, UnitItem, Word,
 };
@@ -59,7 +60,7 @@ fn read_pointer_values<'a>(
 {
     let (_, rest) = one_inside(tokens, Terminal::Star, limits)?;
     let (word, rest) = read_maybe_word_inside(alloc, rest, limits)?;
-    let (_, rest) = one(rest, Terminal::Close, limits)?;
+    let (word, rest) = followed(word, Terminal::Close, rest, limits)?;
     Ok((MainValues::Pointer(word), rest))
 }
 
@@ -72,9 +73,9 @@ fn read_array_end<'a>(
 ) -> Read<'a, MainValues>
     ensures { Gives (reads_at limits (array_end word) tokens.now) result }
 {
-    let (_, rest) = one_inside(tokens, Terminal::OpenBracket, limits)?;
-    let (_, rest) = one_inside(rest, Terminal::CloseBracket, limits)?;
-    let (_, rest) = one(rest, Terminal::Close, limits)?;
+    let (_, rest) = keeping!(word; one_inside(tokens, Terminal::OpenBracket, limits));
+    let (_, rest) = keeping!(word; one_inside(rest, Terminal::CloseBracket, limits));
+    let (_, rest) = keeping!(word; one(rest, Terminal::Close, limits));
     Ok((MainValues::Array(word), rest))
 }
 
@@ -117,10 +118,9 @@ fn read_count_word<'a>(
 {
     let (_, rest) = one(tokens, Terminal::Int, limits)?;
     let (word, rest) = read_maybe_word(alloc, rest, limits)?;
-    let (_, rest) = one(rest, Terminal::Comma, limits)?;
-    let (_, rest) = one(rest, Terminal::Char, limits)?;
-    let (_, rest) = one(rest, Terminal::Star, limits)?;
-    Ok((word, rest))
+    let (_, rest) = keeping!(word; one(rest, Terminal::Comma, limits));
+    let (_, rest) = keeping!(word; one(rest, Terminal::Char, limits));
+    followed(word, Terminal::Star, rest, limits)
 }
 
 // The same, one level deeper.
@@ -163,7 +163,7 @@ fn read_start_tail<'a>(
         return Ok((StartForm::Open(first.position), rest));
     }
     let (time, rest) = read_boxed_timed_inside(alloc, tokens, limits)?;
-    let (_, rest) = one(rest, Terminal::Close, limits)?;
+    let (time, rest) = followed(time, Terminal::Close, rest, limits)?;
     Ok((StartForm::Limited(first.position, time), rest))
 }
 
@@ -175,8 +175,7 @@ fn read_start<'a>(alloc: Global, tokens: &'a [Symbol<'a>], limits: Limits) -> Re
     let (first, rest) = one(tokens, Terminal::ScStart, limits)?;
     let (_, rest) = one(rest, Terminal::Open, limits)?;
     let (form, rest) = read_start_tail(alloc, first, rest, limits)?;
-    let (_, rest) = one(rest, Terminal::Semicolon, limits)?;
-    Ok((form, rest))
+    followed(form, Terminal::Semicolon, rest, limits)
 }
 
 // `return` and its number.
@@ -229,9 +228,12 @@ fn read_main_parts<'a>(
 ) -> Read<'a, Main>
     ensures { Gives (reads_at limits (main_parts count values) tokens.now) result }
 {
-    let (items, rest) = read_main_entries(alloc, tokens, limits)?;
-    let (start, rest) = read_maybe_start(alloc, rest, limits)?;
-    let (returned, rest) = read_maybe_returned(rest, limits)?;
+    let (items, rest) = keeping!(count, values; read_main_entries(alloc, tokens, limits));
+    let (start, rest) = keeping!(count, values, items; read_maybe_start(alloc, rest, limits));
+    let (returned, rest) = keeping!(
+        count, values, items, start;
+        read_maybe_returned(rest, limits)
+    );
     Ok((
         Main {
             count,
@@ -269,10 +271,9 @@ fn read_main_body<'a>(
 ) -> Read<'a, Main>
     ensures { Gives (reads_at limits (main_body count values) tokens.now) result }
 {
-    let (_, rest) = one(tokens, Terminal::OpenBrace, limits)?;
+    let (_, rest) = keeping!(count, values; one(tokens, Terminal::OpenBrace, limits));
     let (main, rest) = read_main_parts_inside(alloc, count, values, rest, limits)?;
-    let (_, rest) = one(rest, Terminal::CloseBrace, limits)?;
-    Ok((main, rest))
+    followed(main, Terminal::CloseBrace, rest, limits)
 }
 
 // `sc_main`.
@@ -283,7 +284,7 @@ fn read_main<'a>(alloc: Global, tokens: &'a [Symbol<'a>], limits: Limits) -> Rea
     let (_, rest) = one(tokens, Terminal::Int, limits)?;
     let (_, rest) = one(rest, Terminal::ScMain, limits)?;
     let (count, rest) = read_main_count(alloc, rest, limits)?;
-    let (values, rest) = read_main_values(alloc, rest, limits)?;
+    let (values, rest) = keeping!(count; read_main_values(alloc, rest, limits));
     read_main_body(alloc, count, values, rest, limits)
 }
 
@@ -337,15 +338,14 @@ fn read_unit_item<'a>(alloc: Global, tokens: &'a [Symbol<'a>], limits: Limits) -
 #[tactic(auto, using(ooo_grammar::specs::Steps::steps))]
 fn read_one_more_unit_item<'a>(
     alloc: Global,
-    mut list: Items<UnitItem>,
+    list: Items<UnitItem>,
     tokens: &'a [Symbol<'a>],
     limits: Limits,
 ) -> Read<'a, Items<UnitItem>>
     ensures { Gives (one_more limits unit_item list tokens.now) result }
 {
-    let (more, rest) = read_unit_item(alloc, tokens, limits)?;
-    list.push(more)?;
-    Ok((list, rest))
+    let (more, rest) = keeping!(list; read_unit_item(alloc, tokens, limits));
+    Ok((with(list, more)?, rest))
 }
 
 // The declarations of a file.
@@ -377,6 +377,6 @@ pub fn read_unit<'a>(alloc: Global, tokens: &'a [Symbol<'a>], limits: Limits) ->
     ensures { Gives (reads_at limits unit tokens.now) result }
 {
     let (items, rest) = read_unit_items(alloc, tokens, limits)?;
-    let (main, rest) = read_main(alloc, rest, limits)?;
+    let (main, rest) = keeping!(items; read_main(alloc, rest, limits));
     Ok((Unit { items, main }, rest))
 }
