@@ -52,7 +52,7 @@ module _ (r : Rules) where
 
   pub last_made : (ms : List Made) (xs : List Activation) → AreMadeAs r ms xs → real.last_stamp ms ≡ last_stamp xs
   last_made _ _ none_made = refl
-  last_made _ _ (more_made {ms} m x a is) = fold-append (λ s n. n.place.stamp) zero_stamp ms (m ∷ []) ∙ is.stamp
+  last_made _ _ (more_made {ms} m x a is number) = fold-append (λ s n. n.place.stamp) zero_stamp ms (m ∷ []) ∙ is.stamp
 
   -- ---- how it ended
 
@@ -87,7 +87,7 @@ module _ (r : Rules) where
 
   pub output_is : (ms : List Made) (xs : List Activation) → AreMadeAs r ms xs → output_text (pieces_after r xs) ≡ flat_map (λ m. m.deed.output) ms
   output_is _ _ none_made = refl
-  output_is _ _ (more_made {ms} {xs} m x a is) =
+  output_is _ _ (more_made {ms} {xs} m x a is number) =
       flat_map-append (λ k. k.bytes) (pieces_after r xs) (piece_of r x ∷ [])
       ∙ ap (λ bs. bs ++ flat_map (λ k. k.bytes) (piece_of r x ∷ [])) (output_is ms xs a)
       ∙ ap (λ bs. flat_map (λ n. n.deed.output) ms ++ bs) (one ∙ sym (flat_map_one))
@@ -101,7 +101,7 @@ module _ (r : Rules) where
 
   pub count_is : (ms : List Made) (xs : List Activation) → AreMadeAs r ms xs → length xs ≡ length ms
   count_is _ _ none_made = refl
-  count_is _ _ (more_made {ms} {xs} m x a is) = let c = count_is ms xs a in let l = length-append ms (m ∷ []) in omega (arith, c, l)
+  count_is _ _ (more_made {ms} {xs} m x a is number) = let c = count_is ms xs a in let l = length-append ms (m ∷ []) in omega (arith, c, l)
 
 -- ---- the histories
 

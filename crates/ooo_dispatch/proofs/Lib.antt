@@ -36,6 +36,7 @@ pub mod Onward
 pub mod Sequenced
 pub mod Finishing
 pub mod Ends
+pub mod Reading
 pub mod Running
 pub mod Beginning
 pub mod Taking

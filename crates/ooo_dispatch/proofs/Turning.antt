@@ -641,7 +641,7 @@ module _ (r : Rules) (rules : AreRules r) (sound : IsSound r.design) (does : Doe
         (subst (λ z. AgreeOn (Accesses r.design z k.entry) (view_of q w) (view_at f.stamp x.reads)) (some_is process proc (sym process_there ∙ at_q)) agrees)
 
     made_turned : AreMadeAs r (w.made ++ record { place = place_of w.stamp q; view = view_of q w; deed = o.deed } ∷ []) (x ∷ xs)
-    made_turned = more_made (record { place = place_of w.stamp q; view = view_of q w; deed = o.deed }) x a.made (record { stamp = sym now; process = refl; output = did.output; effects = did.effects; end = did.end; reads = reads_same })
+    made_turned = more_made (record { place = place_of w.stamp q; view = view_of q w; deed = o.deed }) x a.made (record { stamp = sym now; process = refl; output = did.output; effects = did.effects; end = did.end; reads = reads_same }) refl
 
     descend_turned : Descend r (x ∷ xs)
     descend_turned = (sym owner, (λ z i. ⊎_elim (λ lt. inl lt) (λ e. inr e.0) (before z i)), a.descend)

@@ -20,7 +20,7 @@ ghost use Rattle.ooo_schedules.specs.Tables.{EveryScheduleOf, program};
 ghost use Rattle.ooo_dispatch.specs.declared.reads.Reads.{Reads as ReadsSpec};
 ghost use Rattle.ooo_dispatch.specs.Enough.{ComeBefore, Descend, Shows};
 ghost use Rattle.ooo_dispatch.specs.Rules.{Rules, reads_at, tables, view_at};
-ghost use Rattle.ooo_dispatch.specs.Scheduler.{AgreesWith, AreMadeAs};
+ghost use Rattle.ooo_dispatch.specs.Scheduler.{AgreesWith, AreMadeAs, JobsRead};
 ghost use Rattle.ooo_dispatch.specs.Boards.{AreRules, Board, IsAllowed, IsLawful, IsOverBoard, model};
 ghost use Rattle.ooo_dispatch.specs.Reports.{run_of_board};
 ghost use Rattle.ooo_time.specs.Scales.{greatest_time};
@@ -267,16 +267,30 @@ pub fn every_board_reports()
     ooo_schedules::law::every_report::<Reads>();
 }
 
-/// Of every lawful list of steps: the board agrees with the sequential run, and once it is over, the run that is read off it
-/// is that one.
+/// Whatever lawful steps lead to a board, each of its jobs and committed activations reads what the activation of that
+/// process and number sees in the sequential run, if the run makes it: of all that its segment touches, at the same stamp.
+pub fn every_job_reads()
+    ensures { (r : Rules) (result : Result) (b : Board r) → AreRules r → IsSound r.design →
+        0 < r.limits.deltas → IsSequentialRun r.design r.limits result → IsLawful r b →
+        JobsRead r b result }
+{
+    every_board_agrees();
+}
+
+/// Of every lawful list of steps: the board agrees with the sequential run, each of its jobs reads what that run's activation
+/// sees, and once it is over, the run that is read off it is that one.
 pub fn every_list_agrees()
     ensures agrees { (design : DesignSpec) (limits : LimitsSpec) (t : TablesSpec) (result : Result) →
         IsReady design limits t → IsSequentialRun design limits result →
         Always design limits t (λ r least s. AgreesWith r s.board result) }
+    ensures reads { (design : DesignSpec) (limits : LimitsSpec) (t : TablesSpec) (result : Result) →
+        IsReady design limits t → IsSequentialRun design limits result →
+        Always design limits t (λ r least s. JobsRead r s.board result) }
     ensures reports { (design : DesignSpec) (limits : LimitsSpec) (t : TablesSpec) (result : Result) →
         IsReady design limits t → IsSequentialRun design limits result → Always design limits t
         (λ r least s. IsOverBoard r s.board → ShowsRun (run_of_board r s.board) result) }
 {
     every_board_agrees();
+    every_job_reads();
     every_board_reports();
 }
