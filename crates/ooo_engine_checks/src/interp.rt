@@ -5,18 +5,23 @@ mod faults;
 mod fifos;
 mod limits;
 mod node_kinds;
+mod one_fifo;
 mod segments;
 mod waits;
 
+use crate::interp::one_fifo::OneFifo;
 use ooo_code::{
     Cells, Design, Effect, JobEnd, Node, NodeExpr, NodeKind, Proc, SegmentEntry, WaitOn,
 };
-use ooo_interp::{FifoPort, LentEnd, Port, Ports, Ran, Room, Start, Whole, run_process};
+use ooo_interp::{Emitted, FifoPort, Halt, Port, Ports, Start, Whole, run_process};
 use ooo_time::{Stamp, Time};
 use ooo_value::{Fault, Op, ProcessKind, Value};
 use sqlite_items::{Boxed, Items};
 use std::alloc::{AllocError, Global};
 use std::process::Abort;
+
+/// Parts in lists, with the values of one fifo.
+pub type Parts = Whole<OneFifo>;
 
 /// So many statements are enough for most of these activations.
 pub const MANY: u32 = 1_000;
@@ -91,7 +96,7 @@ impl Code {
     }
 
     /// Runs the nodes as a thread's, from its start.
-    pub fn run(self, parts: &mut Whole, statements: u32) -> Result<Outcome, AllocError> {
+    pub fn run(self, parts: &mut Parts, statements: u32) -> Result<Outcome, AllocError> {
         let alloc = self.alloc;
         let design = self.design(ProcessKind::Thread)?;
         run_from(alloc, parts, &design, SegmentEntry::Start, statements)
@@ -120,7 +125,7 @@ pub fn are_ints(values: &[Value], numbers: &[i32]) -> bool {
 }
 
 /// Whether variable number `x` has these elements.
-pub fn has_cells(parts: &Whole, x: usize, numbers: &[i32]) -> bool {
+pub fn has_cells(parts: &Parts, x: usize, numbers: &[i32]) -> bool {
     match parts.variables.get(x) {
         Some(cells) => are_ints(cells.as_slice(), numbers),
         None => false,
@@ -133,25 +138,34 @@ pub fn ints(alloc: Global, values: &[i32]) -> Result<Vec<Value>, AllocError> {
 }
 
 /// Parts with locals and nothing else.
-pub fn locals(alloc: Global, values: &[i32]) -> Result<Whole, AllocError> {
+pub fn locals(alloc: Global, values: &[i32]) -> Result<Parts, AllocError> {
     let slots = ints(alloc, values)?;
     Ok(Whole {
         slots,
         variables: Vec::new(alloc),
         ports: Ports::new(alloc),
+        fifos: OneFifo::new(alloc),
     })
 }
 
-/// A port of a fifo of at most the greatest size.
-pub fn fifo(rt: &impl Abort, channel: u32, values: Vec<Value>, free: u32) -> Port {
-    let values = Items::from_vec(values);
+/// Adds a port of a fifo of at most the greatest size, whose values are then the only ones.
+pub fn add_fifo(
+    rt: &impl Abort,
+    parts: &mut Parts,
+    channel: u32,
+    values: Vec<Value>,
+    free: u32,
+) -> Result<(), AllocError> {
     assert!(rt; values.len() <= FifoPort::GREATEST_SIZE as usize);
     assert!(rt; free <= FifoPort::GREATEST_SIZE);
-    Port::Fifo(FifoPort::new(channel, values, free))
+    if !values.is_empty() {
+        parts.fifos = OneFifo { channel, values };
+    }
+    add_port(rt, parts, Port::Fifo(FifoPort::new(channel, free)))
 }
 
 /// Adds a port of a channel with a greater number than those that there are.
-pub fn add_port(rt: &impl Abort, parts: &mut Whole, port: Port) -> Result<(), AllocError> {
+pub fn add_port(rt: &impl Abort, parts: &mut Parts, port: Port) -> Result<(), AllocError> {
     assert!(rt; parts.ports.is_below(port.channel()));
     parts.ports.push(port)
 }
@@ -168,39 +182,36 @@ pub struct Outcome {
 /// Runs the process of a design from an entry, at 10 ns.
 pub fn run_from(
     alloc: Global,
-    parts: &mut Whole,
+    parts: &mut Parts,
     design: &Design,
     entry: SegmentEntry,
     statements: u32,
 ) -> Result<Outcome, AllocError> {
     let start = start_from(entry, statements);
-    let Ran {
-        entry,
-        output,
-        effects,
-        end,
-    } = run_process(parts, design, start, Room::new(alloc))?;
+    let mut emitted = Emitted::new(alloc);
+    let halt = run_process(parts, &mut emitted, design, start)?;
+    let Emitted { output, effects } = emitted;
     Ok(Outcome {
-        entry,
+        entry: halt.entry_after(entry),
         output,
         effects,
-        end: own_end(alloc, end)?,
+        end: own_end(alloc, halt)?,
     })
 }
 
 /// How an activation ended, apart from its design.
-fn own_end(alloc: Global, end: LentEnd<'_>) -> Result<JobEnd, AllocError> {
-    match end {
-        LentEnd::Waits(pause) => {
+fn own_end(alloc: Global, halt: Halt<'_>) -> Result<JobEnd, AllocError> {
+    match halt {
+        Halt::Waits(_, pause) => {
             let events = Items::from_slice(alloc, pause.events.as_slice())?;
             Ok(JobEnd::Waits(WaitOn {
                 time: pause.time,
                 events,
             }))
         }
-        LentEnd::Ended => Ok(JobEnd::Ended),
-        LentEnd::Faulted(fault, line) => Ok(JobEnd::Faulted(fault, line)),
-        LentEnd::Limit(line) => Ok(JobEnd::Limit(line)),
+        Halt::Ended => Ok(JobEnd::Ended),
+        Halt::Faulted(fault, line) => Ok(JobEnd::Faulted(fault, line)),
+        Halt::Limit(line) => Ok(JobEnd::Limit(line)),
     }
 }
 

@@ -14,49 +14,50 @@ use Rattle.ooo_code.specs.declared.node.NodeKind.TheVariants as kind
 use Rattle.ooo_code.specs.Expressions.{Sight, fifo_seen, reading_of}
 use Rattle.ooo_code.specs.Nodes.{Doing, Next, Running, act, ends, with_effect, with_first, with_put, with_take}
 use Rattle.ooo_code.specs.Outcomes.{Outcome}
-use Rattle.ooo_interp.specs.declared.doing.Halt.{Halt}
-use Rattle.ooo_interp.specs.declared.doing.Halt.TheVariants as halt
-use Rattle.ooo_interp.specs.declared.doing.Made.{Made}
-use Rattle.ooo_interp.specs.Acting.{Acts, ActsAs, GoesWith, IsHalt, Steps, doing_of}
+use Rattle.ooo_interp.specs.declared.doing.Break.{Break}
+use Rattle.ooo_interp.specs.declared.doing.Break.TheVariants as break
+use Rattle.ooo_interp.specs.declared.doing.Emitted.{Emitted}
+use Rattle.ooo_interp.specs.declared.doing.Pause.{Pause}
+use Rattle.ooo_interp.specs.Acting.{Acts, ActsOn, GoesWith, IsBreak, Emits, Steps, doing_of}
 use Rattle.ooo_interp.specs.Lending.{after_put, after_slot, after_take}
 
--- a fault halts
-pub fault_halts : (r : Running) (line : ℕ) (result : Result ℕ Halt) (f : Fault) (d : Doing) (from : Next → Outcome Frame) → IsErrAnd result (λ h. h ≡ halt.Faulted f) → ((next : Next) → from next ≡ ends r.entry (job.Faulted f line) d) → Steps r line result d from
-fault_halts r line (Ok n) f d from h k = absurd h
-fault_halts r line (Err x) f d from h k = λ next. subst (λ y. IsHalt r line y d (from next)) (sym h) (k next)
+-- a fault breaks the activation off
+pub fault_breaks : (r : Running) (line : ℕ) (result : Result ℕ Break) (f : Fault) (d : Doing) (from : Next → Outcome Frame) → IsErrAnd result (λ h. h ≡ break.Faults f) → ((next : Next) → from next ≡ ends r.entry (job.Faulted f line) d) → Steps r line result d from
+fault_breaks r line (Ok n) f d from h k = absurd h
+fault_breaks r line (Err x) f d from h k = λ next. subst (λ y. IsBreak r line y d (from next)) (sym h) (k next)
 
 first_gives : (vs : List Value) (v : Value) (none : Outcome Frame) (go : Value → Outcome Frame) → Some v ≡ slice_get vs 0 → with_first vs none go ≡ go v
 first_gives [] v none go h = absurd cc
 first_gives (w ∷ ws) v none go h = let e : w ≡ v = cc in ap go e
 
 -- an effect is added, and then it goes on
-pub goes_with : (r : Running) (line to : ℕ) (f : Effect) (result : Result ℕ Halt) (before after : Doing) (from : Next → Outcome Frame) → GoesWith f to result before after → ((next : Next) → from next ≡ next to (with_effect f before)) → Steps r line result after from
+pub goes_with : (r : Running) (line to : ℕ) (f : Effect) (result : Result ℕ Break) (before after : Doing) (from : Next → Outcome Frame) → GoesWith f to result before after → ((next : Next) → from next ≡ next to (with_effect f before)) → Steps r line result after from
 goes_with r line to f (Ok n) before after from h k = λ next. k next ∙ sym (ap (λ x. next x (with_effect f before)) h.0) ∙ sym (ap (next n) h.1)
-goes_with r line to f (Err x) before after from h k = λ next. subst (λ y. IsHalt r line y after (from next)) (sym h) tt
+goes_with r line to f (Err x) before after from h k = λ next. subst (λ y. IsBreak r line y after (from next)) (sym h) tt
 
 -- a value is taken into a local
-pub took : (r : Running) (number line to c n : ℕ) (v : Value) (s t u : Sight) (m l : Made) (result : Result ℕ Halt) → Some v ≡ slice_get (fifo_seen s.seen c).values 0 → t ≡ after_slot s n v → u ≡ after_take t c → ((x : Sight) → GoesWith (effect.Take c) to result (doing_of x m) (doing_of x l)) → Steps r line result (doing_of u l) (λ next. act r (kind.Take c n) number line to next (doing_of s m))
-took r number line to c n v s t u m l result h k j adds =
+pub took : (r : Running) (number line to c n : ℕ) (v : Value) (s t u : Sight) (m l : Emitted) (p : Option Pause) (result : Result ℕ Break) → Some v ≡ slice_get (fifo_seen s.seen c).values 0 → t ≡ after_slot s n v → u ≡ after_take t c → ((x : Sight) (q : Option Pause) → GoesWith (effect.Take c) to result (doing_of x m q) (doing_of x l q)) → Steps r line result (doing_of u l p) (λ next. act r (kind.Take c n) number line to next (doing_of s m p))
+took r number line to c n v s t u m l p result h k j adds =
     let e : u ≡ after_take (after_slot s n v) c = j ∙ ap (λ x. after_take x c) k in
-    let f : with_effect (effect.Take c) (doing_of u m) ≡ with_take c n v (doing_of s m) = ap (λ x. with_effect (effect.Take c) (doing_of x m)) e in
-    goes_with r line to (effect.Take c) result (doing_of u m) (doing_of u l) (λ next. act r (kind.Take c n) number line to next (doing_of s m)) (adds u)
-    (λ next. first_gives (fifo_seen s.seen c).values v (next to (doing_of s m)) (λ w. next to (with_take c n w (doing_of s m))) h ∙ ap (next to) (sym f))
+    let f : with_effect (effect.Take c) (doing_of u m p) ≡ with_take c n v (doing_of s m p) = ap (λ x. with_effect (effect.Take c) (doing_of x m p)) e in
+    goes_with r line to (effect.Take c) result (doing_of u m p) (doing_of u l p) (λ next. act r (kind.Take c n) number line to next (doing_of s m p)) (adds u p)
+    (λ next. first_gives (fifo_seen s.seen c).values v (next to (doing_of s m p)) (λ w. next to (with_take c n w (doing_of s m p))) h ∙ ap (next to) (sym f))
 
 -- a value is put
-pub filled : (r : Running) (number line to c : ℕ) (e : NodeExpr) (v : Value) (s t : Sight) (m l : Made) (result : Result ℕ Halt) → Ok v ≡ reading_of e s → t ≡ after_put s c → ((x : Sight) → GoesWith (effect.Put c v) to result (doing_of x m) (doing_of x l)) → Steps r line result (doing_of t l) (λ next. act r (kind.Put c e) number line to next (doing_of s m))
-filled r number line to c e v s t m l result h k adds =
-    let f : with_effect (effect.Put c v) (doing_of t m) ≡ with_put c v (doing_of s m) = ap (λ x. with_effect (effect.Put c v) (doing_of x m)) k in
-    goes_with r line to (effect.Put c v) result (doing_of t m) (doing_of t l) (λ next. act r (kind.Put c e) number line to next (doing_of s m)) (adds t)
+pub filled : (r : Running) (number line to c : ℕ) (e : NodeExpr) (v : Value) (s t : Sight) (m l : Emitted) (p : Option Pause) (result : Result ℕ Break) → Ok v ≡ reading_of e s → t ≡ after_put s c → ((x : Sight) (q : Option Pause) → GoesWith (effect.Put c v) to result (doing_of x m q) (doing_of x l q)) → Steps r line result (doing_of t l p) (λ next. act r (kind.Put c e) number line to next (doing_of s m p))
+filled r number line to c e v s t m l p result h k adds =
+    let f : with_effect (effect.Put c v) (doing_of t m p) ≡ with_put c v (doing_of s m p) = ap (λ x. with_effect (effect.Put c v) (doing_of x m p)) k in
+    goes_with r line to (effect.Put c v) result (doing_of t m p) (doing_of t l p) (λ next. act r (kind.Put c e) number line to next (doing_of s m p)) (adds t p)
     (λ next. rw (sym h) (ap (next to) (sym f)))
 
 -- a node does what its kind does
-pub acts_by : (r : Running) (node : Node) (k : NodeKind) (number : ℕ) (result : Result ℕ Halt) (before after : Doing) → node.kind ≡ k → Steps r node.line result after (λ next. act r k number node.line node.next next before) → Acts r node number result before after
+pub acts_by : (r : Running) (node : Node) (k : NodeKind) (number : ℕ) (result : Result ℕ Break) (before after : Doing) → node.kind ≡ k → Steps r node.line result after (λ next. act r k number node.line node.next next before) → Acts r node number result before after
 acts_by r node k number result before after is does = subst (λ x. Steps r node.line result after (λ next. act r x number node.line node.next next before)) (sym is) does
 
 -- a node that is done plainly does what its kind does
-pub plainly : (k is : NodeKind) (to : ℕ) (r : Option ℕ) (s t : Sight) → k ≡ is → IfSome r (λ n. (m : Made) → ActsAs is to (Ok n) (doing_of s m) (doing_of t m)) → IfSome r (λ n. (m : Made) → ActsAs k to (Ok n) (doing_of s m) (doing_of t m))
-plainly k is to r s t e does = subst (λ x. IfSome r (λ n. (m : Made) → ActsAs x to (Ok n) (doing_of s m) (doing_of t m))) (sym e) does
+pub plainly : (k is : NodeKind) (to : ℕ) (r : Option ℕ) (s t : Sight) → k ≡ is → IfSome r (λ n. ActsOn is to (Ok n) s t) → IfSome r (λ n. ActsOn k to (Ok n) s t)
+plainly k is to r s t e does = subst (λ x. IfSome r (λ n. ActsOn x to (Ok n) s t)) (sym e) does
 
 -- a node that writes does what its kind does, unless memory runs out
-pub written : {E : Type 0} (k is : NodeKind) (to : ℕ) (r : Result (Option ℕ) E) (before after : Doing) → k ≡ is → IfOk r (λ o. IfSome o (λ n. ActsAs is to (Ok n) before after)) → IfOk r (λ o. IfSome o (λ n. ActsAs k to (Ok n) before after))
-written k is to r before after e does = subst (λ x. IfOk r (λ o. IfSome o (λ n. ActsAs x to (Ok n) before after))) (sym e) does
+pub written : {E : Type 0} (k is : NodeKind) (to : ℕ) (r : Result (Option ℕ) E) (s : Sight) (m l : Emitted) → k ≡ is → IfOk r (λ o. IfSome o (λ n. Emits is to (Ok n) s m s l)) → IfOk r (λ o. IfSome o (λ n. Emits k to (Ok n) s m s l))
+written k is to r s m l e does = subst (λ x. IfOk r (λ o. IfSome o (λ n. Emits x to (Ok n) s m s l))) (sym e) does

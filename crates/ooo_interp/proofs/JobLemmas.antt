@@ -36,7 +36,7 @@ few_of f values free fits h =
     (omega arith, omega arith)
 
 few : (design : Design) → All FitsChannel design.channels → (s : Seen) → FitsSeen design s → IsFew s
-few design sound (seen.Signal c v changed) h = tt
+few design sound (seen.Signal c v changed) h = (omega arith, omega arith)
 few design sound (seen.Fifo c values free) h =
     let at = got_all FitsChannel (λ f. FitsFifo f values free) design.channels c sound h in
     few_of at.0 values free at.1 at.2

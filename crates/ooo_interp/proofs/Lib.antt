@@ -4,6 +4,7 @@ pub mod SignedBits
 pub mod Turned
 pub mod Drops
 pub mod Searched
+pub mod Sighted
 pub mod Ported
 pub mod Listed
 pub mod Placed

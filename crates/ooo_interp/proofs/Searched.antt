@@ -25,7 +25,7 @@ stands_number number [] x at d h = absurd h
 stands_number number (y ∷ ys) x zero d h = h
 stands_number number (y ∷ ys) x (suc at) d h = stands_number number ys x at d h
 
-stands_within : {A : Type 0} (number : A → ℕ) (xs : List A) (x at : ℕ) → StandsAt number xs x at → at < length xs
+pub stands_within : {A : Type 0} (number : A → ℕ) (xs : List A) (x at : ℕ) → StandsAt number xs x at → at < length xs
 stands_within number [] x at h = absurd h
 stands_within number (y ∷ ys) x zero h = omega arith
 stands_within number (y ∷ ys) x (suc at) h = let below = stands_within number ys x at h in omega arith
@@ -52,7 +52,7 @@ none_first number y ys x h = let n : number y ≢ x = h 0 y (omega arith) in gri
 pub none_later : {A : Type 0} (number : A → ℕ) (y : A) (ys : List A) (x : ℕ) → All (λ c. number c ≢ x) (y ∷ ys) → All (λ c. number c ≢ x) ys
 none_later number y ys x h i d lt = h (suc i) d (omega arith)
 
-stands_from : {A : Type 0} (number : A → ℕ) (xs : List A) (x at : ℕ) (d : A) → at < length xs → number (get_or xs at d) ≡ x → StandsAt number xs x at
+pub stands_from : {A : Type 0} (number : A → ℕ) (xs : List A) (x at : ℕ) (d : A) → at < length xs → number (get_or xs at d) ≡ x → StandsAt number xs x at
 stands_from number [] x at d lt h = absurd (omega arith)
 stands_from number (y ∷ ys) x zero d lt h = h
 stands_from number (y ∷ ys) x (suc at) d lt h = stands_from number ys x at d (omega arith) h

@@ -1,11 +1,13 @@
 -- Turns of the loop over nodes.
-use Rattle.std.proofs.Common.{◌≡◌, ℕ, zero, suc, List, length, true, Result, Some, slice_get, refl, sym, ap, subst}
-use Rattle.std.specs.Prelude.{IfOk}
+use Rattle.std.proofs.Common.{◌≡◌, ℕ, zero, suc, List, length, true, Some, slice_get, refl, sym, ap, subst}
 use Rattle.ooo_code.specs.declared.node.Node.{Node}
 use Rattle.ooo_code.specs.declared.node.NodeKind.TheVariants as kind
 use Rattle.ooo_code.specs.Nodes.{Doing, Next, Running, act, at_end, between, pass, steps}
 use Rattle.ooo_interp.specs.declared.counting.Left.{Left}
 use Rattle.ooo_interp.specs.declared.running.Turn.{Turn}
+use Rattle.ooo_interp.specs.declared.doing.Halt.{Halt}
+use Rattle.ooo_interp.specs.declared.running.Turn.TheVariants as turn
+use Rattle.ooo_interp.specs.Acting.{ended_by}
 use Rattle.ooo_interp.specs.Running.{Turns, counted, from_node, room_of}
 
 -- so many statements are a pass up to the first of them
@@ -27,7 +29,7 @@ pub steps_from : (nodes : List Node) (r : Running) (left : Left) (n number : ℕ
 steps_from nodes r left n number d s_is room_is = rw (s_is, room_is) (ap (λ (f : Next). f number d) (steps_pass nodes r n))
 
 -- the end of a process, where its node has done nothing before
-pub ended : {E : Type 0} (r : Running) (node : Node) (number : ℕ) (result : Result Turn E) (before d after : Doing) → node.kind ≡ kind.End → d ≡ before → IfOk result (λ t. (next : Next) → Turns r t next after (at_end r r.process.kind d.trigger d)) → IfOk result (λ t. (next : Next) → Turns r t next after (act r node.kind number node.line node.next next before))
-ended r node number result before d after is same does =
-    subst (λ k. IfOk result (λ t. (next : Next) → Turns r t next after (act r k number node.line node.next next before))) (sym is)
-    (subst (λ x. IfOk result (λ t. (next : Next) → Turns r t next after (at_end r r.process.kind x.trigger x))) same does)
+pub ended : (r : Running) (node : Node) (number : ℕ) (h : Halt) (before d after : Doing) → node.kind ≡ kind.End → d ≡ before → at_end r r.process.kind d.trigger d ≡ ended_by r h after → (next : Next) → Turns r (turn.Over h) next after (act r node.kind number node.line node.next next before)
+ended r node number h before d after is same does next =
+    subst (λ k. Turns r (turn.Over h) next after (act r k number node.line node.next next before)) (sym is)
+    (subst (λ x. at_end r r.process.kind x.trigger x ≡ ended_by r h after) same does)

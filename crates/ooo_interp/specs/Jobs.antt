@@ -1,5 +1,5 @@
 -- Jobs: what an activation is on lent parts, when a job fits, and what a job gives.
-use Rattle.std.specs.Prelude.{◌≡◌, ℕ, ◌<◌, ◌≤◌, ◌⊎◌, List, length, map, Some, slice_get, IsSome, IfSome, IsSomeAnd, All, Any, AllPairs, Contains}
+use Rattle.std.specs.Prelude.{◌≡◌, ℕ, ◌<◌, ◌≤◌, ◌⊎◌, List, length, map, None, Some, slice_get, IsSome, IfSome, IsSomeAnd, All, Any, AllPairs, Contains}
 use Rattle.ooo_time.specs.declared.stamp.Stamp.{Stamp}
 use Rattle.ooo_value.specs.declared.bound.BoundChannel.{BoundChannel}
 use Rattle.ooo_value.specs.declared.bound.BoundVariable.{BoundVariable}
@@ -7,25 +7,23 @@ use Rattle.ooo_value.specs.declared.bound.ChannelKind.TheVariants as channel
 use Rattle.ooo_value.specs.declared.values.Value.{Value}
 use Rattle.ooo_value.specs.Values.{kind_of, IsOfKind}
 use Rattle.ooo_code.specs.declared.activation.Frame.{Frame}
-use Rattle.ooo_code.specs.declared.activation.JobEnd.{JobEnd}
-use Rattle.ooo_code.specs.declared.activation.JobEnd.TheVariants as job
 use Rattle.ooo_code.specs.declared.activation.Seen.{Seen}
 use Rattle.ooo_code.specs.declared.activation.Seen.TheVariants as seen
 use Rattle.ooo_code.specs.declared.design.Design.{Design}
 use Rattle.ooo_code.specs.declared.design.Proc.{Proc}
+use Rattle.ooo_code.specs.declared.segment.SegmentEntry.{SegmentEntry}
 use Rattle.ooo_code.specs.Expressions.{Sight, cells_of, fifo_seen, signal_seen}
-use Rattle.ooo_code.specs.Nodes.{by_nodes}
+use Rattle.ooo_code.specs.Nodes.{by_nodes, ends}
 use Rattle.ooo_code.specs.Outcomes.{Outcome, View}
 use Rattle.ooo_code.specs.Segments.{Accesses, entries_of}
 use Rattle.ooo_code.specs.Sound.{IsSound, signal_kind}
 use Rattle.ooo_code.specs.Touches.{Touch, Reads, Writes, ReadsSignal, HoldsReading, HoldsWriting}
+use Rattle.ooo_interp.specs.declared.doing.Halt.{Halt}
+use Rattle.ooo_interp.specs.declared.doing.Emitted.{Emitted}
 use Rattle.ooo_interp.specs.declared.job.Done.{Done}
 use Rattle.ooo_interp.specs.declared.job.Job.{Job}
-use Rattle.ooo_interp.specs.declared.processes.LentEnd.{LentEnd}
-use Rattle.ooo_interp.specs.declared.processes.LentEnd.TheVariants as lent
-use Rattle.ooo_interp.specs.declared.processes.Ran.{Ran}
 use Rattle.ooo_interp.specs.declared.processes.Start.{Start}
-use Rattle.ooo_interp.specs.Acting.{wait_of}
+use Rattle.ooo_interp.specs.Acting.{doing_of, entry_after, job_end}
 use Rattle.ooo_interp.specs.Carrying.{Carried, IsAscending, listed, numbers_of, put_in}
 
 -- ---- an activation on lent parts
@@ -39,19 +37,9 @@ abbrev pub activation_of : Design → Start → Sight → Outcome Frame
 activation_of design start s =
     by_nodes design start.statements start.process (record { entry = start.entry; slots = s.slots }) (view_of start.stamp s)
 
--- the end that is given with lent events
-abbrev pub job_end : LentEnd → JobEnd
-job_end (lent.Waits p) = job.Waits (wait_of p)
-job_end lent.Ended = job.Ended
-job_end (lent.Faulted f line) = job.Faulted f line
-job_end (lent.Limit line) = job.Limit line
-
--- what an activation came to, with the parts after it
-abbrev pub ran_on : Ran → Sight → Outcome Frame
-ran_on ran s = record {
-  deed = record { output = ran.output.items; variables = s.variables; effects = ran.effects.items; end = job_end ran.end };
-  next = record { entry = ran.entry; slots = s.slots };
-}
+-- what an activation came to that began at an entry: by what it emitted, how it ended, and the parts after it
+abbrev pub comes_to : SegmentEntry → Emitted → Halt → Sight → Outcome Frame
+comes_to began emitted halt s = ends (entry_after began halt) (job_end halt) (doing_of s emitted None)
 
 -- ---- when a job fits
 
@@ -101,14 +89,27 @@ abbrev pub FitsSeen : Design → Seen → Type 0
 FitsSeen design (seen.Signal c v changed) = signal_kind (slice_get design.channels c) ≡ Some (kind_of v)
 FitsSeen design (seen.Fifo c values free) = IsSomeAnd (slice_get design.channels c) (λ f. FitsFifo f values free)
 
+-- how many values and how many free slots are seen of a fifo; a signal has none
+abbrev pub count_seen : Seen → ℕ
+count_seen (seen.Signal c v changed) = 0
+count_seen (seen.Fifo c values free) = length values
+
+abbrev pub free_seen : Seen → ℕ
+free_seen (seen.Signal c v changed) = 0
+free_seen (seen.Fifo c values free) = free
+
 -- a fifo shows no more values and free slots than the largest fifo holds
 abbrev pub IsFew : Seen → Type 0
-IsFew (seen.Signal c v changed) = Unit {0}
-IsFew (seen.Fifo c values free) = (length values ≤ 65536) × (free ≤ 65536)
+IsFew s = (count_seen s ≤ 65536) × (free_seen s ≤ 65536)
 
 abbrev pub number_seen : Seen → ℕ
 number_seen (seen.Signal c v changed) = c
 number_seen (seen.Fifo c values free) = c
+
+-- fifos have these values, as it is seen
+abbrev pub IsKeptBy : (ℕ → List Value) → Seen → Type 0
+IsKeptBy values (seen.Signal c v changed) = Unit {0}
+IsKeptBy values (seen.Fifo c own free) = values c ≡ own
 
 -- each channel that is seen has a lower number than the later ones
 abbrev pub SeenAscend : List Seen → Type 0
@@ -165,9 +166,9 @@ job_on job view = by_nodes job.design.value job.statements job.process job.frame
 abbrev pub done_on : Done → View → Outcome Frame
 done_on done view = record {
   deed = record {
-    output = done.output.items;
+    output = done.emitted.output.items;
     variables = put_in done.owned.items view.variables;
-    effects = done.effects.items;
+    effects = done.emitted.effects.items;
     end = done.end;
   };
   next = done.frame;

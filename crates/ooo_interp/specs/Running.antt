@@ -1,23 +1,13 @@
 -- The loop over nodes: how many may still count, how many may stand before the next that counts, and what it gives.
 use Rattle.std.specs.Prelude.{◌≡◌, ℕ, zero, suc, ◌+◌, ◌*◌, ◌<◌, List, length}
 use Rattle.ooo_code.specs.declared.activation.Frame.{Frame}
-use Rattle.ooo_code.specs.declared.activation.JobEnd.TheVariants as job
 use Rattle.ooo_code.specs.declared.node.Node.{Node}
-use Rattle.ooo_code.specs.Nodes.{Doing, Next, Running, act, at_limit, ends, pass, steps}
+use Rattle.ooo_code.specs.Nodes.{Doing, Next, Running, act, at_limit, pass, steps}
 use Rattle.ooo_code.specs.Outcomes.{Outcome}
 use Rattle.ooo_interp.specs.declared.counting.Left.{Left}
-use Rattle.ooo_interp.specs.declared.running.End.{End}
-use Rattle.ooo_interp.specs.declared.running.End.TheVariants as end
 use Rattle.ooo_interp.specs.declared.running.Turn.{Turn}
 use Rattle.ooo_interp.specs.declared.running.Turn.TheVariants as turn
-use Rattle.ooo_interp.specs.Acting.{wait_of}
-
--- an activation that ends so, from what it has come to
-abbrev pub ended_by : Running → End → Doing → Outcome Frame
-ended_by r (end.Waits entry p) d = ends entry (job.Waits (wait_of p)) d
-ended_by r end.Ended d = ends r.entry job.Ended d
-ended_by r (end.Faulted f line) d = ends r.entry (job.Faulted f line) d
-ended_by r (end.Limit line) d = ends r.entry (job.Limit line) d
+use Rattle.ooo_interp.specs.Acting.{ended_by}
 
 -- what a node that counts comes to, where so many more may count
 abbrev pub counted : List Node → Running → ℕ → Node → Next
@@ -27,7 +17,7 @@ counted nodes r (suc n) = λ node number d. act r node.kind number node.line nod
 -- a turn from a node on: it goes on there, or ends so
 abbrev pub Turns : Running → Turn → Next → Doing → Outcome Frame → Type 0
 Turns r (turn.Goes to) next d o = o ≡ next to d
-Turns r (turn.Over e) next d o = o ≡ ended_by r e d
+Turns r (turn.Over h) next d o = o ≡ ended_by r h d
 
 -- how many nodes may be passed up to the next that counts
 abbrev pub room_of : Left → ℕ
@@ -48,4 +38,4 @@ turns_of nodes left = left.statements * (length nodes + 3) + room_of left
 -- fewer turns may follow, where one does
 abbrev pub Shortens : List Node → (old new : Left) → Turn → Type 0
 Shortens nodes old new (turn.Goes to) = turns_of nodes new < turns_of nodes old
-Shortens nodes old new (turn.Over e) = Unit {0}
+Shortens nodes old new (turn.Over h) = Unit {0}

@@ -1,12 +1,13 @@
-ghost use Rattle.std.specs.Prelude.{◌≡◌, ℕ};
+ghost use Rattle.std.specs.Prelude.{◌≡◌};
 ghost use Rattle.ooo_code.specs.Expressions.{Sight};
 ghost use Rattle.ooo_code.specs.Nodes.{at_end};
-ghost use Rattle.ooo_interp.specs.Acting.{Acts, IsHalt, doing_of, running_of};
+ghost use Rattle.ooo_interp.specs.declared.doing.Emitted.{Emitted as EmittedSpec};
+ghost use Rattle.ooo_interp.specs.Acting.{Acts, doing_of, ended_by, running_of};
 
 use crate::changes::{put, set, store, take, write};
 use crate::choices::{test, test_available, test_free};
-use crate::doing::{Activation, Halt, Made, Pause};
-use crate::notices::{notify, trigger, wait};
+use crate::doing::{Activation, Break, Emitted, Halt, Pause};
+use crate::events::{notify, set_trigger, wait};
 use crate::parts::Lent;
 use crate::printing::{print_text, print_time, print_value};
 use ooo_code::{Effect, Node, NodeKind, SegmentEntry};
@@ -16,13 +17,15 @@ use ooo_value::ProcessKind;
 #[inline(always)]
 pub(crate) fn act<'a, L: Lent>(
     lent: &mut L,
-    made: &mut Made<'a>,
+    emitted: &mut Emitted,
+    trigger: &mut Option<Pause<'a>>,
     activation: &Activation<'a>,
     node: &'a Node,
     number: u32,
-) -> Result<u32, Halt<'a>>
+) -> Result<u32, Break<'a>>
     ensures acts { Acts (running_of activation.now) node.now number result
-        (doing_of (L.sight lent.old) made.old) (doing_of (L.sight lent.new) made.new) }
+        (doing_of (L.sight lent.old) emitted.old trigger.old)
+        (doing_of (L.sight lent.new) emitted.new trigger.new) }
     ensures kept { L.kept lent.new ≡ L.kept lent.old }
 {
     let to = node.next;
@@ -31,33 +34,33 @@ pub(crate) fn act<'a, L: Lent>(
         NodeKind::Store(x, i, e) => store(lent, *x, i, e, to),
         NodeKind::Test(e, no) => test(lent, e, to, *no),
         NodeKind::Goto => Ok(to),
-        NodeKind::PrintText(text) => print_text(made, text, to),
-        NodeKind::PrintValue(e) => print_value(lent, made, e, to),
-        NodeKind::PrintTime => print_time(made, activation.stamp.time, to),
-        NodeKind::Write(c, e) => write(lent, made, *c, e, to),
+        NodeKind::PrintText(text) => print_text(emitted, text, to),
+        NodeKind::PrintValue(e) => print_value(lent, emitted, e, to),
+        NodeKind::PrintTime => print_time(emitted, activation.stamp.time, to),
+        NodeKind::Write(c, e) => write(lent, emitted, *c, e, to),
         NodeKind::TestAvailable(c, no) => Ok(test_available(lent, *c, to, *no)),
         NodeKind::TestFree(c, no) => Ok(test_free(lent, *c, to, *no)),
-        NodeKind::Take(c, n) => take(lent, made, *c, *n, to),
-        NodeKind::Put(c, e) => put(lent, made, *c, e, to),
-        NodeKind::Notify(e, t) => notify(lent, made, *e, t, to),
-        NodeKind::Cancel(e) => made.go_with(Effect::Cancel(*e), to),
-        NodeKind::Stop => made.go_with(Effect::Stop, to),
-        NodeKind::Trigger(w) => trigger(lent, made, w, to),
+        NodeKind::Take(c, n) => take(lent, emitted, *c, *n, to),
+        NodeKind::Put(c, e) => put(lent, emitted, *c, e, to),
+        NodeKind::Notify(e, t) => notify(lent, emitted, *e, t, to),
+        NodeKind::Cancel(e) => emitted.go_with(Effect::Cancel(*e), to),
+        NodeKind::Stop => emitted.go_with(Effect::Stop, to),
+        NodeKind::Trigger(w) => set_trigger(lent, trigger, w, to),
         NodeKind::Wait(w) => wait(lent, w, number),
-        NodeKind::End => Err(at_end(made, activation)),
+        NodeKind::End => Err(Break::Halts(at_end(trigger, activation))),
     }
 }
 
 // How a process ends: a thread as its body does, and a method with what it waits for next.
 #[inline(always)]
-pub(crate) fn at_end<'a>(made: &mut Made<'a>, activation: &Activation<'a>) -> Halt<'a>
-    ensures { (line : ℕ) (s : Sight) →
-        let r = running_of activation.now in let d = doing_of s made.old in
-        IsHalt r line result (doing_of s made.new) (at_end r r.process.kind d.trigger d) }
+pub(crate) fn at_end<'a>(trigger: &mut Option<Pause<'a>>, activation: &Activation<'a>) -> Halt<'a>
+    ensures { (s : Sight) (m : EmittedSpec) →
+        let r = running_of activation.now in let d = doing_of s m trigger.old in
+        at_end r r.process.kind d.trigger d ≡ ended_by r result (doing_of s m trigger.new) }
 {
     match activation.process.kind {
         ProcessKind::Thread => Halt::Ended,
-        ProcessKind::Method => match made.trigger.take() {
+        ProcessKind::Method => match trigger.take() {
             Some(pause) => Halt::Waits(SegmentEntry::Start, pause),
             None => Halt::Waits(
                 SegmentEntry::Start,

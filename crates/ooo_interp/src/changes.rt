@@ -2,10 +2,9 @@
 
 ghost use Rattle.std.specs.Prelude.{◌≡◌, Some, None};
 ghost use Rattle.ooo_code.specs.declared.node.NodeKind.TheVariants as kind;
-ghost use Rattle.ooo_interp.specs.Acting.{ActsAs, doing_of};
-ghost use Rattle.ooo_interp.specs.declared.doing.Made.{Made as MadeSpec};
+ghost use Rattle.ooo_interp.specs.Acting.{ActsOn, Emits};
 
-use crate::doing::{Halt, Made};
+use crate::doing::{Break, Emitted};
 use crate::expressions::{evaluate, index_below};
 use crate::parts::Lent;
 use ooo_code::{Effect, NodeExpr};
@@ -17,9 +16,9 @@ pub(crate) fn set<'a, L: Lent>(
     slot: u32,
     e: &NodeExpr,
     to: u32,
-) -> Result<u32, Halt<'a>>
-    ensures acts { (m : MadeSpec) → ActsAs (kind.Set slot e.now) to result
-        (doing_of (L.sight lent.old) m) (doing_of (L.sight lent.new) m) }
+) -> Result<u32, Break<'a>>
+    ensures acts { ActsOn (kind.Set slot e.now) to result
+        (L.sight lent.old) (L.sight lent.new) }
     ensures kept { L.kept lent.new ≡ L.kept lent.old }
 {
     let v = evaluate(lent, e)?;
@@ -34,9 +33,9 @@ pub(crate) fn store<'a, L: Lent>(
     index: &Option<NodeExpr>,
     e: &NodeExpr,
     to: u32,
-) -> Result<u32, Halt<'a>>
-    ensures acts { (m : MadeSpec) → ActsAs (kind.Store variable index.now e.now) to result
-        (doing_of (L.sight lent.old) m) (doing_of (L.sight lent.new) m) }
+) -> Result<u32, Break<'a>>
+    ensures acts { ActsOn (kind.Store variable index.now e.now) to result
+        (L.sight lent.old) (L.sight lent.new) }
     ensures kept { L.kept lent.new ≡ L.kept lent.old }
 {
     match index {
@@ -51,9 +50,9 @@ fn store_scalar<'a, L: Lent>(
     variable: u32,
     e: &NodeExpr,
     to: u32,
-) -> Result<u32, Halt<'a>>
-    ensures acts { (m : MadeSpec) → ActsAs (kind.Store variable None e.now) to result
-        (doing_of (L.sight lent.old) m) (doing_of (L.sight lent.new) m) }
+) -> Result<u32, Break<'a>>
+    ensures acts { ActsOn (kind.Store variable None e.now) to result
+        (L.sight lent.old) (L.sight lent.new) }
     ensures kept { L.kept lent.new ≡ L.kept lent.old }
 {
     let v = evaluate(lent, e)?;
@@ -68,15 +67,15 @@ fn store_at<'a, L: Lent>(
     i: &NodeExpr,
     e: &NodeExpr,
     to: u32,
-) -> Result<u32, Halt<'a>>
-    ensures acts { (m : MadeSpec) → ActsAs (kind.Store variable (Some i.now) e.now) to result
-        (doing_of (L.sight lent.old) m) (doing_of (L.sight lent.new) m) }
+) -> Result<u32, Break<'a>>
+    ensures acts { ActsOn (kind.Store variable (Some i.now) e.now) to result
+        (L.sight lent.old) (L.sight lent.new) }
     ensures kept { L.kept lent.new ≡ L.kept lent.old }
 {
     let v = evaluate(lent, e)?;
     let index = evaluate(lent, i)?;
     let Some(at) = index_below(lent.cells(variable).len(), index) else {
-        return Err(Halt::Faulted(Fault::IndexRange));
+        return Err(Break::Faults(Fault::IndexRange));
     };
     lent.set_cell(variable, at, v);
     Ok(to)
@@ -85,28 +84,28 @@ fn store_at<'a, L: Lent>(
 // A value of a signal is requested.
 pub(crate) fn write<'a, L: Lent>(
     lent: &L,
-    made: &mut Made<'a>,
+    emitted: &mut Emitted,
     signal: u32,
     e: &NodeExpr,
     to: u32,
-) -> Result<u32, Halt<'a>>
-    ensures { ActsAs (kind.Write signal e.now) to result
-        (doing_of (L.sight lent.now) made.old) (doing_of (L.sight lent.now) made.new) }
+) -> Result<u32, Break<'a>>
+    ensures { let s = L.sight lent.now in
+        Emits (kind.Write signal e.now) to result s emitted.old s emitted.new }
 {
     let v = evaluate(lent, e)?;
-    made.go_with(Effect::Request(signal, v), to)
+    emitted.go_with(Effect::Request(signal, v), to)
 }
 
 // A value of a fifo is taken into a local, where one is available.
 pub(crate) fn take<'a, L: Lent>(
     lent: &mut L,
-    made: &mut Made<'a>,
+    emitted: &mut Emitted,
     fifo: u32,
     slot: u32,
     to: u32,
-) -> Result<u32, Halt<'a>>
-    ensures acts { ActsAs (kind.Take fifo slot) to result
-        (doing_of (L.sight lent.old) made.old) (doing_of (L.sight lent.new) made.new) }
+) -> Result<u32, Break<'a>>
+    ensures acts { Emits (kind.Take fifo slot) to result
+        (L.sight lent.old) emitted.old (L.sight lent.new) emitted.new }
     ensures kept { L.kept lent.new ≡ L.kept lent.old }
 {
     let Some(v) = lent.first(fifo) else {
@@ -114,22 +113,22 @@ pub(crate) fn take<'a, L: Lent>(
     };
     lent.set_slot(slot, v);
     lent.take(fifo);
-    made.go_with(Effect::Take(fifo), to)
+    emitted.go_with(Effect::Take(fifo), to)
 }
 
 // A value is put into a fifo.
 pub(crate) fn put<'a, L: Lent>(
     lent: &mut L,
-    made: &mut Made<'a>,
+    emitted: &mut Emitted,
     fifo: u32,
     e: &NodeExpr,
     to: u32,
-) -> Result<u32, Halt<'a>>
-    ensures acts { ActsAs (kind.Put fifo e.now) to result
-        (doing_of (L.sight lent.old) made.old) (doing_of (L.sight lent.new) made.new) }
+) -> Result<u32, Break<'a>>
+    ensures acts { Emits (kind.Put fifo e.now) to result
+        (L.sight lent.old) emitted.old (L.sight lent.new) emitted.new }
     ensures kept { L.kept lent.new ≡ L.kept lent.old }
 {
     let v = evaluate(lent, e)?;
     lent.put(fifo);
-    made.go_with(Effect::Put(fifo, v), to)
+    emitted.go_with(Effect::Put(fifo, v), to)
 }

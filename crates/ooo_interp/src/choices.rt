@@ -2,10 +2,9 @@
 
 ghost use Rattle.std.specs.Prelude.{Ok};
 ghost use Rattle.ooo_code.specs.declared.node.NodeKind.TheVariants as kind;
-ghost use Rattle.ooo_interp.specs.Acting.{ActsAs, doing_of};
-ghost use Rattle.ooo_interp.specs.declared.doing.Made.{Made as MadeSpec};
+ghost use Rattle.ooo_interp.specs.Acting.{ActsOn};
 
-use crate::doing::Halt;
+use crate::doing::Break;
 use crate::expressions::evaluate;
 use crate::parts::Lent;
 use ooo_code::NodeExpr;
@@ -17,9 +16,8 @@ pub(crate) fn test<'a, L: Lent>(
     e: &NodeExpr,
     to: u32,
     other: u32,
-) -> Result<u32, Halt<'a>>
-    ensures { (m : MadeSpec) → let d = doing_of (L.sight lent.now) m in
-        ActsAs (kind.Test e.now other) to result d d }
+) -> Result<u32, Break<'a>>
+    ensures { let s = L.sight lent.now in ActsOn (kind.Test e.now other) to result s s }
 {
     let v = evaluate(lent, e)?;
     if truth(v) { Ok(to) } else { Ok(other) }
@@ -27,8 +25,8 @@ pub(crate) fn test<'a, L: Lent>(
 
 // Goes to another node where no value of a fifo is available.
 pub(crate) fn test_available<L: Lent>(lent: &L, fifo: u32, to: u32, other: u32) -> u32
-    ensures { (m : MadeSpec) → let d = doing_of (L.sight lent.now) m in
-        ActsAs (kind.TestAvailable fifo other) to (Ok result) d d }
+    ensures { let s = L.sight lent.now in
+        ActsOn (kind.TestAvailable fifo other) to (Ok result) s s }
 {
     match lent.first(fifo) {
         Some(_) => to,
@@ -38,8 +36,7 @@ pub(crate) fn test_available<L: Lent>(lent: &L, fifo: u32, to: u32, other: u32) 
 
 // Goes to another node where no slot of a fifo is free.
 pub(crate) fn test_free<L: Lent>(lent: &L, fifo: u32, to: u32, other: u32) -> u32
-    ensures { (m : MadeSpec) → let d = doing_of (L.sight lent.now) m in
-        ActsAs (kind.TestFree fifo other) to (Ok result) d d }
+    ensures { let s = L.sight lent.now in ActsOn (kind.TestFree fifo other) to (Ok result) s s }
 {
     if lent.free(fifo) == 0 { other } else { to }
 }

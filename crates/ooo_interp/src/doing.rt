@@ -1,7 +1,8 @@
-ghost use Rattle.std.specs.Prelude.{◌≡◌, [], None, OnOk};
+ghost use Rattle.std.specs.Prelude.{◌≡◌, [], OnOk, Option};
 ghost use Rattle.ooo_code.specs.Expressions.{Sight};
 ghost use Rattle.ooo_code.specs.Nodes.{with_effect};
-ghost use Rattle.ooo_interp.specs.Acting.{GoesWith, doing_of};
+ghost use Rattle.ooo_interp.specs.Acting.{GoesWith, doing_of, entry_after};
+ghost use Rattle.ooo_interp.specs.declared.doing.Pause.{Pause as PauseSpec};
 
 use ooo_code::{Effect, Proc, SegmentEntry};
 use ooo_time::{Stamp, Time};
@@ -17,60 +18,39 @@ pub struct Activation<'a> {
     pub stamp: Stamp,
 }
 
-/// Two vectors in which the output and the effects of an activation grow. What they hold is dropped as it begins; their
-/// memory is used again.
+/// What an activation emitted so far: its output, and its effects in order. It is lent by who runs the activation. What it
+/// holds is dropped as the next one begins, and its memory is used again.
 #[derive(Drop)]
-pub struct Room {
+pub struct Emitted {
     pub output: Vec<u8>,
     pub effects: Vec<Effect>,
 }
 
-impl Room {
-    /// No room yet. It takes no memory.
-    pub fn new(alloc: Global) -> Room
+impl Emitted {
+    /// Nothing emitted yet. It takes no memory.
+    pub fn new(alloc: Global) -> Emitted
         ensures output { result.output.items ≡ [] }
         ensures effects { result.effects.items ≡ [] }
     {
-        Room {
+        Emitted {
             output: Vec::new(alloc),
             effects: Vec::new(alloc),
         }
     }
 
-    // What an activation made as it begins: nothing.
-    pub(crate) fn begin<'a>(self) -> Made<'a>
-        ensures output { result.output.items ≡ [] }
-        ensures effects { result.effects.items ≡ [] }
-        ensures trigger { result.trigger ≡ None }
+    // Nothing is emitted, as an activation begins.
+    pub(crate) fn clear(&mut self)
+        ensures output { self.new.output.items ≡ [] }
+        ensures effects { self.new.effects.items ≡ [] }
     {
-        let Room {
-            mut output,
-            mut effects,
-        } = self;
-        output.clear();
-        effects.clear();
-        Made {
-            output,
-            effects,
-            trigger: None,
-        }
+        self.output.clear();
+        self.effects.clear();
     }
-}
 
-/// What an activation made so far: its output, its effects in order, and what its method waits for next, where that
-/// was set.
-#[derive(Drop)]
-pub struct Made<'a> {
-    pub output: Vec<u8>,
-    pub effects: Vec<Effect>,
-    pub trigger: Option<Pause<'a>>,
-}
-
-impl<'a> Made<'a> {
     // Adds an effect, and goes on to a node.
-    pub(crate) fn go_with(&mut self, effect: Effect, to: u32) -> Result<u32, Halt<'a>>
-        ensures { (s : Sight) →
-            GoesWith effect to result (doing_of s self.old) (doing_of s self.new) }
+    pub(crate) fn go_with<'a>(&mut self, effect: Effect, to: u32) -> Result<u32, Break<'a>>
+        ensures { (s : Sight) (p : Option PauseSpec) →
+            GoesWith effect to result (doing_of s self.old p) (doing_of s self.new p) }
     {
         self.add(effect)?;
         Ok(to)
@@ -78,8 +58,8 @@ impl<'a> Made<'a> {
 
     // Adds an effect.
     pub(crate) fn add(&mut self, effect: Effect) -> Result<(), AllocError>
-        ensures { OnOk result ((s : Sight) →
-            doing_of s self.new ≡ with_effect effect (doing_of s self.old)) }
+        ensures { OnOk result ((s : Sight) (p : Option PauseSpec) →
+            doing_of s self.new p ≡ with_effect effect (doing_of s self.old p)) }
     {
         self.effects.push(effect)?;
         Ok(())
@@ -93,34 +73,56 @@ pub struct Pause<'a> {
     pub events: &'a Items<u32>,
 }
 
-/// Why an activation doesn't go on.
+/// How an activation ends. The last number is that of a line.
 #[derive(Debug, Drop)]
 pub enum Halt<'a> {
-    /// It waits, and goes on from this entry.
+    /// Its process waits, and goes on from this entry.
     Waits(SegmentEntry, Pause<'a>),
     Ended,
-    Faulted(Fault),
-    OutOfMemory,
+    Faulted(Fault, u32),
+    /// It would count one statement more than the statement limit.
+    Limit(u32),
 }
 
-impl<'a> From<Fault> for Halt<'a> {
-    ghost use Rattle.std.specs.Prelude.{◌≡◌};
-    ghost use Rattle.ooo_interp.specs.declared.doing.Halt.TheVariants.{Faulted};
-
-    ghost from_gives = { λ f h. h ≡ Faulted f };
-
-    fn from(fault: Fault) -> Halt<'a> {
-        Halt::Faulted(fault)
+impl<'a> Halt<'a> {
+    /// The entry from which the process goes on, whose activation began at an entry.
+    pub fn entry_after(&self, began: SegmentEntry) -> SegmentEntry
+        ensures { result ≡ entry_after began self.now }
+    {
+        match self {
+            Halt::Waits(entry, _) => *entry,
+            Halt::Ended | Halt::Faulted(_, _) | Halt::Limit(_) => began,
+        }
     }
 }
 
-impl<'a> From<AllocError> for Halt<'a> {
+/// Why no node follows a node.
+#[derive(Debug, Drop)]
+pub enum Break<'a> {
+    /// The activation is over.
+    Halts(Halt<'a>),
+    Faults(Fault),
+    OutOfMemory,
+}
+
+impl<'a> From<Fault> for Break<'a> {
     ghost use Rattle.std.specs.Prelude.{◌≡◌};
-    ghost use Rattle.ooo_interp.specs.declared.doing.Halt.TheVariants.{OutOfMemory};
+    ghost use Rattle.ooo_interp.specs.declared.doing.Break.TheVariants.{Faults};
 
-    ghost from_gives = { λ _ h. h ≡ OutOfMemory };
+    ghost from_gives = { λ f b. b ≡ Faults f };
 
-    fn from(_error: AllocError) -> Halt<'a> {
-        Halt::OutOfMemory
+    fn from(fault: Fault) -> Break<'a> {
+        Break::Faults(fault)
+    }
+}
+
+impl<'a> From<AllocError> for Break<'a> {
+    ghost use Rattle.std.specs.Prelude.{◌≡◌};
+    ghost use Rattle.ooo_interp.specs.declared.doing.Break.TheVariants.{OutOfMemory};
+
+    ghost from_gives = { λ _ b. b ≡ OutOfMemory };
+
+    fn from(_error: AllocError) -> Break<'a> {
+        Break::OutOfMemory
     }
 }

@@ -1,34 +1,32 @@
 ghost use Rattle.std.specs.Prelude.{◌≡◌, ◌-◌, ◌≤◌, drop, length, pos, slice_get};
 
+use crate::fifo_values::FifoValues;
 use ooo_value::Value;
-use sqlite_items::Items;
 
-/// What a process sees of a fifo, and how much of it the process itself took and filled.
-#[derive(Drop)]
+/// How much of a fifo a process took and filled itself. The values stand elsewhere.
+#[derive(Debug, Drop)]
 pub struct FifoPort {
     channel: u32,
-    values: Items<Value>,
-    taken: usize,
+    taken: u32,
     free: u32,
-    ghost few: { length values ≤ 65536 },
     ghost small: { free ≤ 65536 },
 }
 
 impl FifoPort {
+    ghost use Rattle.ooo_interp.specs.Ports.{fifo_shown};
+
     /// The greatest size of a fifo.
     pub const GREATEST_SIZE: u32 = 65_536;
 
-    /// A fifo as it is seen, of which nothing is taken yet.
-    pub fn new(channel: u32, values: Items<Value>, free: u32) -> FifoPort
-        requires few { length values ≤ 65536 }
-        requires small { free ≤ 65536 }
+    /// A fifo with so many free slots, of which nothing is taken yet.
+    pub fn new(channel: u32, free: u32) -> FifoPort
+        requires { free ≤ 65536 }
         ensures channel { result.channel ≡ channel }
-        ensures values { drop result.taken result.values ≡ values }
+        ensures taken { result.taken ≡ 0 }
         ensures free { result.free ≡ free }
     {
         FifoPort {
             channel,
-            values,
             taken: 0,
             free,
         }
@@ -42,18 +40,19 @@ impl FifoPort {
     }
 
     // The value that is taken next.
-    pub(crate) fn first(&self) -> Option<Value>
-        ensures { result ≡ slice_get (drop self.now.taken self.now.values) 0 }
+    pub(crate) fn first<F: FifoValues>(&self, fifos: &F) -> Option<Value>
+        ensures { result ≡ slice_get (fifo_shown (F.values fifos.now) self.now).values 0 }
     {
-        self.values.get(self.taken).copied()
+        fifos.value(self.channel, self.taken)
     }
 
     // How many values may be taken.
-    pub(crate) fn available(&self) -> i32
-        ensures { result ≡ pos (length (drop self.now.taken self.now.values)) }
+    pub(crate) fn available<F: FifoValues>(&self, fifos: &F) -> i32
+        ensures { result ≡ pos (length (fifo_shown (F.values fifos.now) self.now).values) }
     {
-        if self.taken < self.values.len() {
-            (self.values.len() - self.taken) as i32
+        let count = fifos.count(self.channel);
+        if self.taken < count {
+            (count - self.taken) as i32
         } else {
             0
         }
@@ -68,13 +67,13 @@ impl FifoPort {
 
     // Takes a value.
     #[tactic(auto, using(crate::proofs::Drops::drop_one_more))]
-    pub(crate) fn take(&mut self)
+    pub(crate) fn take<F: FifoValues>(&mut self, fifos: &F)
         ensures channel { self.new.channel ≡ self.old.channel }
-        ensures values { drop self.new.taken self.new.values
-            ≡ drop 1 (drop self.old.taken self.old.values) }
+        ensures values { let values = F.values fifos.now self.old.channel in
+            drop self.new.taken values ≡ drop 1 (drop self.old.taken values) }
         ensures free { self.new.free ≡ self.old.free }
     {
-        if self.taken < self.values.len() {
+        if self.taken < fifos.count(self.channel) {
             self.taken += 1;
         }
     }
@@ -82,7 +81,7 @@ impl FifoPort {
     // Fills a slot.
     pub(crate) fn put(&mut self)
         ensures channel { self.new.channel ≡ self.old.channel }
-        ensures values { drop self.new.taken self.new.values ≡ drop self.old.taken self.old.values }
+        ensures taken { self.new.taken ≡ self.old.taken }
         ensures free { self.new.free ≡ self.old.free - 1 }
     {
         if self.free > 0 {

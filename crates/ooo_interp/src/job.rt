@@ -1,4 +1,5 @@
-use ooo_code::{Cells, Design, Effect, Frame, JobEnd, Seen};
+use crate::doing::Emitted;
+use ooo_code::{Cells, Design, Frame, JobEnd, Seen};
 use ooo_time::Stamp;
 use std::sync::Arc;
 
@@ -34,8 +35,6 @@ pub struct Done {
     pub frame: Frame,
     /// The variables that it was given to change, as it left them.
     pub owned: Vec<(u32, Cells)>,
-    /// Its effects, in order.
-    pub effects: Vec<Effect>,
-    pub output: Vec<u8>,
+    pub emitted: Emitted,
     pub end: JobEnd,
 }

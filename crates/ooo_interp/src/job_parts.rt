@@ -3,6 +3,7 @@ ghost use Rattle.ooo_interp.specs.Carrying.{IsAscending, listed, put_in, with_li
 
 use crate::parts::Lent;
 use crate::ports::Ports;
+use crate::seen_fifos::SeenFifos;
 use ooo_code::Cells;
 use ooo_value::Value;
 use sqlite_items::Items;
@@ -15,6 +16,7 @@ pub struct JobParts {
     pub owned: Vec<(u32, Cells)>,
     pub copied: Vec<(u32, Cells)>,
     pub ports: Ports,
+    pub fifos: SeenFifos,
     /// How many variables the design has.
     pub count: usize,
     ghost owned_ascending: { IsAscending owned.items },
@@ -24,12 +26,12 @@ pub struct JobParts {
 impl Lent for JobParts {
     ghost use Rattle.std.specs.Prelude.{ℕ, List};
     ghost use Rattle.ooo_interp.specs.Carrying.{all_cells, numbers_of};
-    ghost use Rattle.ooo_interp.specs.Ports.{all_shown};
+    ghost use Rattle.ooo_interp.specs.Ports.{all_shown, values_in};
 
     ghost sight = { λ p. record {
       slots = p.slots;
       variables = all_cells p.count p.owned.items p.copied.items;
-      seen = all_shown p.ports;
+      seen = all_shown (values_in p.fifos.seen.items) p.ports;
     } };
 
     ghost Kept = { List ℕ × ℕ };
@@ -59,14 +61,14 @@ impl Lent for JobParts {
 
     fn first(&self, channel: u32) -> Option<Value> {
         match self.ports.fifo(channel) {
-            Some(fifo) => fifo.first(),
+            Some(fifo) => fifo.first(&self.fifos),
             None => None,
         }
     }
 
     fn available(&self, channel: u32) -> i32 {
         match self.ports.fifo(channel) {
-            Some(fifo) => fifo.available(),
+            Some(fifo) => fifo.available(&self.fifos),
             None => 0,
         }
     }
@@ -92,7 +94,7 @@ impl Lent for JobParts {
     }
 
     fn take(&mut self, channel: u32) {
-        self.ports.take(channel);
+        self.ports.take(channel, &self.fifos);
     }
 
     fn put(&mut self, channel: u32) {

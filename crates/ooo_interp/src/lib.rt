@@ -1,12 +1,12 @@
 //! The interpreter of lowered code: what a process does by its nodes, on parts that are lent to it.
 //!
-//! Proved: [`evaluate`] gives what the definition of an expression gives on what the parts show, and [`run_nodes`] and
-//! [`run_process`] do what the definition of an activation does: the same changes, effects, output and end, with its
-//! line. They take any nodes and any parts; only memory can run out.
+//! Proved: [`evaluate`] gives what the definition of an expression gives on what the parts show, and [`run_process`] does
+//! what the definition of an activation does: the same changes, effects, output and end, with its line. It takes any
+//! design and any parts; only memory can run out.
 //!
 //! [`run_segment`] runs a job, on the variables and channels that it carries. On every view of all variables that the job
-//! is part of, the definition's activation gives what was done: its output, effects, end and frame, the variables that
-//! the job was given to change as it left them, and all others as they were. The job has to fit (`specs/Jobs`): above
+//! is part of, the definition's activation gives what was done: what it emitted, its end and frame, the variables that the
+//! job was given to change as it left them, and all others as they were. The job has to fit (`specs/Jobs`): above
 //! all, it carries what its segment touches.
 #![tactic(auto)]
 
@@ -17,11 +17,12 @@ mod combining;
 mod counting;
 mod delays;
 mod doing;
+mod events;
 mod expressions;
 mod fifo_port;
+mod fifo_values;
 mod job;
 mod job_parts;
-mod notices;
 mod numbers;
 mod parts;
 mod plainly;
@@ -30,18 +31,20 @@ mod ports;
 mod printing;
 mod processes;
 mod running;
+mod seen_fifos;
 mod segments;
 mod whole;
 
-pub use doing::{Activation, Halt, Made, Pause, Room};
+pub use doing::{Emitted, Halt, Pause};
 pub use expressions::evaluate;
 pub use fifo_port::FifoPort;
+pub use fifo_values::FifoValues;
 pub use job::{Done, Job};
 pub use job_parts::JobParts;
 pub use parts::Lent;
 pub use port::Port;
 pub use ports::Ports;
-pub use processes::{LentEnd, Ran, Start, run_process};
-pub use running::{End, run_nodes};
+pub use processes::{Start, run_process};
+pub use seen_fifos::SeenFifos;
 pub use segments::run_segment;
 pub use whole::Whole;

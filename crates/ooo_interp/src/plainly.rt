@@ -4,13 +4,12 @@
 ghost use Rattle.std.specs.Prelude.{◌≡◌, IfNone, IfOk, IfSome, None, Ok, Some};
 ghost use Rattle.ooo_code.specs.declared.node.NodeKind.TheVariants as kind;
 ghost use Rattle.ooo_code.specs.Expressions.{on_value, reading_of};
-ghost use Rattle.ooo_interp.specs.Acting.{ActsAs, doing_of};
-ghost use Rattle.ooo_interp.specs.declared.doing.Made.{Made as MadeSpec};
+ghost use Rattle.ooo_interp.specs.Acting.{ActsOn, Emits};
 ghost use Rattle.ooo_value.specs.Operators.{binary_of};
 ghost use Rattle.ooo_value.specs.declared.values.Value.TheVariants as ValueSpec;
 
 use crate::combining::combine;
-use crate::doing::Made;
+use crate::doing::Emitted;
 use crate::expressions::{evaluate, index_below};
 use crate::numbers::kinds::Operand;
 use crate::numbers::{combined, operand};
@@ -22,8 +21,8 @@ use std::alloc::AllocError;
 // Does what a node does, where that is plain: the next node. Where it isn't, nothing is done.
 #[inline(always)]
 pub(crate) fn do_plainly<L: Lent>(lent: &mut L, node: &Node) -> Option<u32>
-    ensures acts { IfSome result (λ n. (m : MadeSpec) → ActsAs node.now.kind node.now.next (Ok n)
-        (doing_of (L.sight lent.old) m) (doing_of (L.sight lent.new) m)) }
+    ensures acts { IfSome result (λ n. ActsOn node.now.kind node.now.next (Ok n)
+        (L.sight lent.old) (L.sight lent.new)) }
     ensures none { IfNone result (L.sight lent.new ≡ L.sight lent.old) }
     ensures kept { L.kept lent.new ≡ L.kept lent.old }
 {
@@ -39,48 +38,48 @@ pub(crate) fn do_plainly<L: Lent>(lent: &mut L, node: &Node) -> Option<u32>
 
 // Does what a node does that writes a signal, where its value is plain: the next node. Else nothing is done.
 #[inline(always)]
-pub(crate) fn write_plainly<'a, L: Lent>(
+pub(crate) fn write_plainly<L: Lent>(
     lent: &L,
-    made: &mut Made<'a>,
+    emitted: &mut Emitted,
     node: &Node,
 ) -> Result<Option<u32>, AllocError>
     ensures acts { let s = L.sight lent.now in
-        IfOk result (λ to. IfSome to (λ n. ActsAs node.now.kind node.now.next (Ok n)
-        (doing_of s made.old) (doing_of s made.new))) }
-    ensures none { IfOk result (λ to. IfNone to (made.new ≡ made.old)) }
+        IfOk result (λ to. IfSome to (λ n.
+        Emits node.now.kind node.now.next (Ok n) s emitted.old s emitted.new)) }
+    ensures none { IfOk result (λ to. IfNone to (emitted.new ≡ emitted.old)) }
 {
     match &node.kind {
-        NodeKind::Write(c, e) => write(lent, made, *c, e, node.next),
+        NodeKind::Write(c, e) => write(lent, emitted, *c, e, node.next),
         _ => Ok(None),
     }
 }
 
 // A value of a signal is requested.
 #[inline(always)]
-fn write<'a, L: Lent>(
+fn write<L: Lent>(
     lent: &L,
-    made: &mut Made<'a>,
+    emitted: &mut Emitted,
     signal: u32,
     e: &NodeExpr,
     to: u32,
 ) -> Result<Option<u32>, AllocError>
     ensures acts { let s = L.sight lent.now in
-        IfOk result (λ next. IfSome next (λ n. ActsAs (kind.Write signal e.now) to (Ok n)
-        (doing_of s made.old) (doing_of s made.new))) }
-    ensures none { IfOk result (λ next. IfNone next (made.new ≡ made.old)) }
+        IfOk result (λ next. IfSome next (λ n.
+        Emits (kind.Write signal e.now) to (Ok n) s emitted.old s emitted.new)) }
+    ensures none { IfOk result (λ next. IfNone next (emitted.new ≡ emitted.old)) }
 {
     let Some(v) = plain_value(lent, e) else {
         return Ok(None);
     };
-    made.add(Effect::Request(signal, v))?;
+    emitted.add(Effect::Request(signal, v))?;
     Ok(Some(to))
 }
 
 // A local gets a value.
 #[inline(always)]
 fn set<L: Lent>(lent: &mut L, slot: u32, e: &NodeExpr, to: u32) -> Option<u32>
-    ensures acts { IfSome result (λ n. (m : MadeSpec) → ActsAs (kind.Set slot e.now) to (Ok n)
-        (doing_of (L.sight lent.old) m) (doing_of (L.sight lent.new) m)) }
+    ensures acts { IfSome result (λ n. ActsOn (kind.Set slot e.now) to (Ok n)
+        (L.sight lent.old) (L.sight lent.new)) }
     ensures none { IfNone result (L.sight lent.new ≡ L.sight lent.old) }
     ensures kept { L.kept lent.new ≡ L.kept lent.old }
 {
@@ -98,9 +97,8 @@ fn store<L: Lent>(
     e: &NodeExpr,
     to: u32,
 ) -> Option<u32>
-    ensures acts { IfSome result (λ n. (m : MadeSpec) →
-        ActsAs (kind.Store variable index.now e.now) to (Ok n)
-        (doing_of (L.sight lent.old) m) (doing_of (L.sight lent.new) m)) }
+    ensures acts { IfSome result (λ n. ActsOn (kind.Store variable index.now e.now) to (Ok n)
+        (L.sight lent.old) (L.sight lent.new)) }
     ensures none { IfNone result (L.sight lent.new ≡ L.sight lent.old) }
     ensures kept { L.kept lent.new ≡ L.kept lent.old }
 {
@@ -113,9 +111,8 @@ fn store<L: Lent>(
 // A scalar variable gets a value.
 #[inline(always)]
 fn store_scalar<L: Lent>(lent: &mut L, variable: u32, e: &NodeExpr, to: u32) -> Option<u32>
-    ensures acts { IfSome result (λ n. (m : MadeSpec) →
-        ActsAs (kind.Store variable None e.now) to (Ok n)
-        (doing_of (L.sight lent.old) m) (doing_of (L.sight lent.new) m)) }
+    ensures acts { IfSome result (λ n. ActsOn (kind.Store variable None e.now) to (Ok n)
+        (L.sight lent.old) (L.sight lent.new)) }
     ensures none { IfNone result (L.sight lent.new ≡ L.sight lent.old) }
     ensures kept { L.kept lent.new ≡ L.kept lent.old }
 {
@@ -132,9 +129,8 @@ fn store_at<L: Lent>(
     e: &NodeExpr,
     to: u32,
 ) -> Option<u32>
-    ensures acts { IfSome result (λ n. (m : MadeSpec) →
-        ActsAs (kind.Store variable (Some i.now) e.now) to (Ok n)
-        (doing_of (L.sight lent.old) m) (doing_of (L.sight lent.new) m)) }
+    ensures acts { IfSome result (λ n. ActsOn (kind.Store variable (Some i.now) e.now) to (Ok n)
+        (L.sight lent.old) (L.sight lent.new)) }
     ensures none { IfNone result (L.sight lent.new ≡ L.sight lent.old) }
     ensures kept { L.kept lent.new ≡ L.kept lent.old }
 {
@@ -148,8 +144,8 @@ fn store_at<L: Lent>(
 // Goes to another node where a value is 0.
 #[inline(always)]
 fn test<L: Lent>(lent: &L, e: &NodeExpr, to: u32, other: u32) -> Option<u32>
-    ensures { IfSome result (λ n. (m : MadeSpec) → let d = doing_of (L.sight lent.now) m in
-        ActsAs (kind.Test e.now other) to (Ok n) d d) }
+    ensures { let s = L.sight lent.now in
+        IfSome result (λ n. ActsOn (kind.Test e.now other) to (Ok n) s s) }
 {
     let holds = plain_truth(lent, e)?;
     Some(if truth(Value::Bool(holds)) { to } else { other })

@@ -1,5 +1,5 @@
 ghost use Rattle.std.specs.Prelude.{◌≡◌};
-ghost use Rattle.ooo_interp.specs.Ports.{channel_of};
+ghost use Rattle.ooo_interp.specs.Ports.{channel_of, signal_shown};
 
 use crate::fifo_port::FifoPort;
 use ooo_value::Value;
@@ -20,6 +20,17 @@ impl Port {
         match self {
             Port::Signal(channel, _, _) => *channel,
             Port::Fifo(fifo) => fifo.channel(),
+        }
+    }
+    // The value of its signal, and whether that changed. Of a fifo it is 0.
+    #[inline(always)]
+    pub(crate) fn signal(&self) -> (Value, bool)
+        ensures value { result.0 ≡ (signal_shown self.now).value }
+        ensures changed { result.1 ≡ (signal_shown self.now).changed }
+    {
+        match self {
+            Port::Signal(_, v, changed) => (*v, *changed),
+            Port::Fifo(_) => (Value::Int(0), false),
         }
     }
 }

@@ -1,9 +1,10 @@
 ghost use Rattle.std.specs.Prelude.{◌≡◌, ◌≢◌, ◌<◌, ◌↔◌, ◌++◌, [], ◌∷◌, slice_get, All, IfOk, OnErr, OnOk, IsSomeAnd, IsTrue, MatchOption};
 ghost use Rattle.ooo_code.specs.Expressions.{fifo_seen, signal_seen};
 ghost use Rattle.ooo_code.specs.Nodes.{seen_after_put, seen_after_take};
-ghost use Rattle.ooo_interp.specs.Ports.{PortsAscend, ShowAlike, ShowsIts, all_shown, channel_of, fifo_shown, less_one_slot, less_one_value, shown};
+ghost use Rattle.ooo_interp.specs.Ports.{PortsAscend, ShowAlike, ShowsIts, ValuesOf, all_shown, channel_of, fifo_shown, less_one_slot, less_one_value, shown};
 
 use crate::fifo_port::FifoPort;
+use crate::fifo_values::FifoValues;
 use crate::port::Port;
 use ooo_value::Value;
 use std::alloc::{AllocError, Global};
@@ -82,31 +83,36 @@ impl Ports {
 
     // The value of a signal, and whether it changed.
     pub(crate) fn signal(&self, channel: u32) -> (Value, bool)
-        ensures value { result.0 ≡ (signal_seen (all_shown self.now) channel).value }
-        ensures changed { result.1 ≡ (signal_seen (all_shown self.now) channel).changed }
+        ensures value { (values : ValuesOf) →
+            result.0 ≡ (signal_seen (all_shown values self.now) channel).value }
+        ensures changed { (values : ValuesOf) →
+            result.1 ≡ (signal_seen (all_shown values self.now) channel).changed }
     {
         match self.of(channel) {
-            Some(Port::Signal(_, v, changed)) => (*v, *changed),
-            Some(Port::Fifo(_)) | None => (Value::Int(0), false),
+            Some(port) => port.signal(),
+            None => (Value::Int(0), false),
         }
     }
 
     // The port of a fifo.
     pub(crate) fn fifo(&self, channel: u32) -> Option<&FifoPort>
-        ensures { MatchOption result
-            (fifo_seen (all_shown self.now) channel ≡ record { values = []; free = 0 })
-            (λ f. fifo_seen (all_shown self.now) channel ≡ fifo_shown f.now) }
+        ensures { let seen = λ (values : ValuesOf). fifo_seen (all_shown values self.now) channel in
+            MatchOption result ((values : ValuesOf) → seen values ≡ record { values = []; free = 0 })
+            (λ f. (values : ValuesOf) → seen values ≡ fifo_shown values f.now) }
     {
         match self.of(channel) {
-            Some(Port::Fifo(fifo)) => Some(fifo),
-            Some(Port::Signal(_, _, _)) | None => None,
+            Some(port) => match port {
+                Port::Fifo(fifo) => Some(fifo),
+                Port::Signal(_, _, _) => None,
+            },
+            None => None,
         }
     }
 
     // The port of a channel.
     fn of(&self, channel: u32) -> Option<&Port>
-        ensures { MatchOption result (ShowAlike channel self.now [])
-            (λ p. ShowsIts channel self.now p.now) }
+        ensures { MatchOption result ((values : ValuesOf) → ShowAlike values channel self.now [])
+            (λ p. (values : ValuesOf) → ShowsIts values channel self.now p.now) }
     {
         match place_of(&self.items, channel) {
             Some(at) => Some(&self.items[at]),
@@ -115,17 +121,19 @@ impl Ports {
     }
 
     // Takes a value of a fifo.
-    pub(crate) fn take(&mut self, channel: u32)
-        ensures { all_shown self.new ≡ seen_after_take (all_shown self.old) channel }
+    pub(crate) fn take<F: FifoValues>(&mut self, channel: u32, fifos: &F)
+        ensures { let values = F.values fifos.now in
+            all_shown values self.new ≡ seen_after_take (all_shown values self.old) channel }
     {
         if let Some(at) = place_of(&self.items, channel) {
-            take_of(&mut self.items[at]);
+            take_of(&mut self.items[at], fifos);
         }
     }
 
     // Fills a slot of a fifo.
     pub(crate) fn put(&mut self, channel: u32)
-        ensures { all_shown self.new ≡ seen_after_put (all_shown self.old) channel }
+        ensures { (values : ValuesOf) →
+            all_shown values self.new ≡ seen_after_put (all_shown values self.old) channel }
     {
         if let Some(at) = place_of(&self.items, channel) {
             put_of(&mut self.items[at]);
@@ -145,19 +153,21 @@ fn place_of(ports: &[Port], channel: u32) -> Option<usize>
 }
 
 // Takes a value, where the port is of a fifo.
-fn take_of(port: &mut Port)
+fn take_of<F: FifoValues>(port: &mut Port, fifos: &F)
     ensures channel { channel_of port.new ≡ channel_of port.old }
-    ensures shown { shown port.new ≡ less_one_value (shown port.old) }
+    ensures shown { let values = F.values fifos.now in
+        shown values port.new ≡ less_one_value (shown values port.old) }
 {
     if let Port::Fifo(fifo) = port {
-        fifo.take();
+        fifo.take(fifos);
     }
 }
 
 // Fills a slot, where the port is of a fifo.
 fn put_of(port: &mut Port)
     ensures channel { channel_of port.new ≡ channel_of port.old }
-    ensures shown { shown port.new ≡ less_one_slot (shown port.old) }
+    ensures shown { (values : ValuesOf) →
+        shown values port.new ≡ less_one_slot (shown values port.old) }
 {
     if let Port::Fifo(fifo) = port {
         fifo.put();

@@ -1,67 +1,64 @@
 //! The loop over the nodes of an activation: how many statements it may count, where it goes on, and how it ends.
 
-ghost use Rattle.std.specs.Prelude.{◌≡◌, ℕ, IfOk};
+ghost use Rattle.std.specs.Prelude.{◌≡◌, IfOk, None};
 ghost use Rattle.ooo_code.specs.declared.activation.Frame.{Frame};
 ghost use Rattle.ooo_code.specs.Nodes.{Doing, Next, Running, act, steps};
 ghost use Rattle.ooo_code.specs.Outcomes.{Outcome};
-ghost use Rattle.ooo_interp.specs.Acting.{IsHalt, doing_of, running_of};
-ghost use Rattle.ooo_interp.specs.Running.{Comes, Shortens, Turns, ended_by, from_node};
+ghost use Rattle.ooo_interp.specs.Acting.{IsBreak, doing_of, ended_by, running_of};
+ghost use Rattle.ooo_interp.specs.Running.{Comes, Shortens, Turns, from_node};
 
 use crate::acting::{act, at_end};
 use crate::counting::Left;
-use crate::doing::{Activation, Halt, Made, Pause};
+use crate::doing::{Activation, Break, Emitted, Halt, Pause};
 use crate::parts::Lent;
 use crate::plainly::{do_plainly, write_plainly};
-use ooo_code::{Node, NodeKind, SegmentEntry};
-use ooo_value::Fault;
+use ooo_code::{Node, NodeKind};
 use sqlite_items::at;
 use std::alloc::AllocError;
-
-/// How an activation ends. The last number is that of a line.
-#[derive(Debug, Drop)]
-pub enum End<'a> {
-    /// It waits, and goes on from this entry.
-    Waits(SegmentEntry, Pause<'a>),
-    Ended,
-    Faulted(Fault, u32),
-    /// It would count one statement more than the statement limit.
-    Limit(u32),
-}
 
 // What a turn of the loop over nodes comes to.
 #[derive(Debug, Drop)]
 pub enum Turn<'a> {
     // On to this node.
     Goes(u32),
-    Over(End<'a>),
+    Over(Halt<'a>),
 }
 
 /// Runs an activation from a node on, with a statement limit: what it does is done on the parts lent, and added to
-/// what it made.
+/// what it emitted.
 ///
 /// # Errors
 ///
 /// Only where memory runs out.
 pub fn run_nodes<'a, L: Lent>(
     lent: &mut L,
-    made: &mut Made<'a>,
+    emitted: &mut Emitted,
     nodes: &'a [Node],
     activation: &Activation<'a>,
     first: u32,
     statements: u32,
-) -> Result<End<'a>, AllocError>
+) -> Result<Halt<'a>, AllocError>
     ensures does { let r = running_of activation.now in
-        IfOk result (λ end. steps nodes.now r statements first
-        (doing_of (L.sight lent.old) made.old)
-        ≡ ended_by r end (doing_of (L.sight lent.new) made.new)) }
+        IfOk result (λ halt. steps nodes.now r statements first
+        (doing_of (L.sight lent.old) emitted.old None)
+        ≡ ended_by r halt (doing_of (L.sight lent.new) emitted.new None)) }
     ensures kept { L.kept lent.new ≡ L.kept lent.old }
 {
     let mut left = Left::new(statements, nodes.len());
     let mut number = first;
+    let mut trigger = None;
     'turns: loop {
-        match go_on(lent, made, nodes, activation, number, &mut left)? {
+        match go_on(
+            lent,
+            emitted,
+            &mut trigger,
+            nodes,
+            activation,
+            number,
+            &mut left,
+        )? {
             Turn::Goes(to) => number = to,
-            Turn::Over(end) => return Ok(end),
+            Turn::Over(halt) => return Ok(halt),
         }
     }
 }
@@ -70,34 +67,35 @@ pub fn run_nodes<'a, L: Lent>(
 #[inline(always)]
 fn go_on<'a, L: Lent>(
     lent: &mut L,
-    made: &mut Made<'a>,
+    emitted: &mut Emitted,
+    trigger: &mut Option<Pause<'a>>,
     nodes: &'a [Node],
     activation: &Activation<'a>,
     number: u32,
     left: &mut Left,
 ) -> Result<Turn<'a>, AllocError>
     ensures comes { let r = running_of activation.now in
-        let before = doing_of (L.sight lent.old) made.old in
-        let after = doing_of (L.sight lent.new) made.new in
+        let before = doing_of (L.sight lent.old) emitted.old trigger.old in
+        let after = doing_of (L.sight lent.new) emitted.new trigger.new in
         IfOk result (λ t. Comes nodes.now r left.new t after
         (from_node nodes.now r left.old number before)) }
     ensures shortens { IfOk result (λ t. Shortens nodes.now left.old left.new t) }
     ensures kept { L.kept lent.new ≡ L.kept lent.old }
 {
     if !left.pass() {
-        return Ok(Turn::Over(End::Ended));
+        return Ok(Turn::Over(Halt::Ended));
     }
     let Some(node) = at(nodes, number as usize) else {
-        return Ok(Turn::Over(End::Ended));
+        return Ok(Turn::Over(Halt::Ended));
     };
     if !node.counts {
-        return do_node(lent, made, activation, node, number);
+        return do_node(lent, emitted, trigger, activation, node, number);
     }
     if left.statements == 0 {
-        return Ok(Turn::Over(End::Limit(node.line)));
+        return Ok(Turn::Over(Halt::Limit(node.line)));
     }
     let after = Left::new(left.statements - 1, nodes.len());
-    let counted = do_node(lent, made, activation, node, number)?;
+    let counted = do_node(lent, emitted, trigger, activation, node, number)?;
     *left = after;
     Ok(counted)
 }
@@ -106,14 +104,15 @@ fn go_on<'a, L: Lent>(
 #[inline(always)]
 fn do_node<'a, L: Lent>(
     lent: &mut L,
-    made: &mut Made<'a>,
+    emitted: &mut Emitted,
+    trigger: &mut Option<Pause<'a>>,
     activation: &Activation<'a>,
     node: &'a Node,
     number: u32,
 ) -> Result<Turn<'a>, AllocError>
     ensures does { let r = running_of activation.now in
-        let before = doing_of (L.sight lent.old) made.old in
-        let after = doing_of (L.sight lent.new) made.new in
+        let before = doing_of (L.sight lent.old) emitted.old trigger.old in
+        let after = doing_of (L.sight lent.new) emitted.new trigger.new in
         IfOk result (λ t. (next : Next) → Turns r t next after
         (act r node.now.kind number node.now.line node.now.next next before)) }
     ensures kept { L.kept lent.new ≡ L.kept lent.old }
@@ -121,12 +120,12 @@ fn do_node<'a, L: Lent>(
     if let Some(to) = do_plainly(lent, node) {
         return Ok(Turn::Goes(to));
     }
-    if let Some(to) = write_plainly(lent, made, node)? {
+    if let Some(to) = write_plainly(lent, emitted, node)? {
         return Ok(Turn::Goes(to));
     }
     match &node.kind {
-        NodeKind::End => halted(at_end(made, activation), node.line),
-        _ => Ok(do_any(lent, made, activation, node, number)?),
+        NodeKind::End => Ok(Turn::Over(at_end(trigger, activation))),
+        _ => do_any(lent, emitted, trigger, activation, node, number),
     }
 }
 
@@ -134,34 +133,34 @@ fn do_node<'a, L: Lent>(
 #[inline(never)]
 fn do_any<'a, L: Lent>(
     lent: &mut L,
-    made: &mut Made<'a>,
+    emitted: &mut Emitted,
+    trigger: &mut Option<Pause<'a>>,
     activation: &Activation<'a>,
     node: &'a Node,
     number: u32,
 ) -> Result<Turn<'a>, AllocError>
     ensures does { let r = running_of activation.now in
-        let before = doing_of (L.sight lent.old) made.old in
-        let after = doing_of (L.sight lent.new) made.new in
+        let before = doing_of (L.sight lent.old) emitted.old trigger.old in
+        let after = doing_of (L.sight lent.new) emitted.new trigger.new in
         IfOk result (λ t. (next : Next) → Turns r t next after
         (act r node.now.kind number node.now.line node.now.next next before)) }
     ensures kept { L.kept lent.new ≡ L.kept lent.old }
 {
-    match act(lent, made, activation, node, number) {
+    match act(lent, emitted, trigger, activation, node, number) {
         Ok(to) => Ok(Turn::Goes(to)),
-        Err(halt) => halted(halt, node.line),
+        Err(why) => broken(why, node.line),
     }
 }
 
-// An activation that halts at a node of this line is over.
+// An activation that breaks off at a node of this line is over.
 #[inline(always)]
-fn halted<'a>(halt: Halt<'a>, line: u32) -> Result<Turn<'a>, AllocError>
-    ensures { (r : Running) (d : Doing) (o : Outcome Frame) → IsHalt r line halt.entry d o →
+fn broken<'a>(why: Break<'a>, line: u32) -> Result<Turn<'a>, AllocError>
+    ensures { (r : Running) (d : Doing) (o : Outcome Frame) → IsBreak r line why.entry d o →
         IfOk result (λ t. (next : Next) → Turns r t next d o) }
 {
-    match halt {
-        Halt::Waits(entry, pause) => Ok(Turn::Over(End::Waits(entry, pause))),
-        Halt::Ended => Ok(Turn::Over(End::Ended)),
-        Halt::Faulted(fault) => Ok(Turn::Over(End::Faulted(fault, line))),
-        Halt::OutOfMemory => Err(AllocError),
+    match why {
+        Break::Halts(halt) => Ok(Turn::Over(halt)),
+        Break::Faults(fault) => Ok(Turn::Over(Halt::Faulted(fault, line))),
+        Break::OutOfMemory => Err(AllocError),
     }
 }

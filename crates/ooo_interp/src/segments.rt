@@ -1,16 +1,17 @@
 ghost use Rattle.std.specs.Prelude.{◌≡◌, IfOk, All};
 ghost use Rattle.ooo_code.specs.Outcomes.{View};
-ghost use Rattle.ooo_interp.specs.Acting.{wait_of};
-ghost use Rattle.ooo_interp.specs.Jobs.{Fits, IsFew, IsOf, IsPartOf, SeenAscend, done_on, job_end, job_on};
-ghost use Rattle.ooo_interp.specs.Ports.{all_shown, shown};
+ghost use Rattle.ooo_interp.specs.Acting.{job_end, wait_of};
+ghost use Rattle.ooo_interp.specs.Jobs.{Fits, IsFew, IsKeptBy, IsOf, IsPartOf, SeenAscend, done_on, job_on, number_seen};
+ghost use Rattle.ooo_interp.specs.Ports.{ValuesOf, all_shown, channel_of, shown, values_in};
 
-use crate::doing::{Pause, Room};
+use crate::doing::{Emitted, Halt, Pause};
 use crate::fifo_port::FifoPort;
 use crate::job::{Done, Job};
 use crate::job_parts::JobParts;
 use crate::port::Port;
 use crate::ports::Ports;
-use crate::processes::{LentEnd, Start, run_process};
+use crate::processes::{Start, run_process};
+use crate::seen_fifos::SeenFifos;
 use ooo_code::law::{changes_what_is_touched, reads_what_is_touched};
 use ooo_code::{Frame, JobEnd, Seen, WaitOn};
 use sqlite_items::Items;
@@ -41,12 +42,14 @@ pub fn run_segment(alloc: Global, job: Job) -> Result<Done, AllocError>
         seen,
     } = job;
     let Frame { entry, slots } = frame;
-    let ports = ports_of(alloc, seen)?;
+    let ports = ports_of(alloc, seen.as_slice())?;
+    let fifos = SeenFifos::new(seen);
     let mut parts = JobParts {
         slots,
         owned,
         copied,
         ports,
+        fifos,
         count: design.variables.len(),
     };
     let start = Start {
@@ -55,34 +58,35 @@ pub fn run_segment(alloc: Global, job: Job) -> Result<Done, AllocError>
         stamp,
         statements,
     };
-    let ran = run_process(&mut parts, &design, start, Room::new(alloc))?;
-    let end = own_end(alloc, ran.end)?;
+    let mut emitted = Emitted::new(alloc);
+    let halt = run_process(&mut parts, &mut emitted, &design, start)?;
+    let entry = halt.entry_after(entry);
+    let end = own_end(alloc, halt)?;
     Ok(Done {
         process,
         activation,
         frame: Frame {
-            entry: ran.entry,
+            entry,
             slots: parts.slots,
         },
         owned: parts.owned,
-        effects: ran.effects,
-        output: ran.output,
+        emitted,
         end,
     })
 }
 
 // How an activation ended, with a copy of the events that it waits for.
-fn own_end(alloc: Global, end: LentEnd<'_>) -> Result<JobEnd, AllocError>
-    ensures { IfOk result (λ own. own ≡ job_end end.entry) }
+fn own_end(alloc: Global, halt: Halt<'_>) -> Result<JobEnd, AllocError>
+    ensures { IfOk result (λ end. end ≡ job_end halt.entry) }
 {
-    match end {
-        LentEnd::Waits(pause) => {
+    match halt {
+        Halt::Waits(_, pause) => {
             let on = wait_on(alloc, pause)?;
             Ok(JobEnd::Waits(on))
         }
-        LentEnd::Ended => Ok(JobEnd::Ended),
-        LentEnd::Faulted(fault, line) => Ok(JobEnd::Faulted(fault, line)),
-        LentEnd::Limit(line) => Ok(JobEnd::Limit(line)),
+        Halt::Ended => Ok(JobEnd::Ended),
+        Halt::Faulted(fault, line) => Ok(JobEnd::Faulted(fault, line)),
+        Halt::Limit(line) => Ok(JobEnd::Limit(line)),
     }
 }
 
@@ -98,10 +102,10 @@ fn wait_on(alloc: Global, pause: Pause<'_>) -> Result<WaitOn, AllocError>
 }
 
 // A port for each channel that is seen.
-fn ports_of(alloc: Global, seen: Vec<Seen>) -> Result<Ports, AllocError>
-    requires few { All IsFew seen.items }
-    requires ascending { SeenAscend seen.items }
-    ensures { IfOk result (λ ports. all_shown ports ≡ seen.items) }
+fn ports_of(alloc: Global, seen: &[Seen]) -> Result<Ports, AllocError>
+    requires few { All IsFew seen.now }
+    requires ascending { SeenAscend seen.now }
+    ensures { IfOk result (λ ports. all_shown (values_in seen.now) ports ≡ seen.now) }
 {
     let mut ports = Ports::with_capacity(alloc, seen.len())?;
     for channel in seen {
@@ -111,12 +115,14 @@ fn ports_of(alloc: Global, seen: Vec<Seen>) -> Result<Ports, AllocError>
 }
 
 // The port of a channel.
-fn port_of(seen: Seen) -> Port
-    requires { IsFew seen }
-    ensures { shown result ≡ seen }
+fn port_of(seen: &Seen) -> Port
+    requires { IsFew seen.now }
+    ensures number { channel_of result ≡ number_seen seen.now }
+    ensures shown { (values : ValuesOf) →
+        IsKeptBy values seen.now → shown values result ≡ seen.now }
 {
     match seen {
-        Seen::Signal(channel, v, changed) => Port::Signal(channel, v, changed),
-        Seen::Fifo(channel, values, free) => Port::Fifo(FifoPort::new(channel, values, free)),
+        Seen::Signal(channel, v, changed) => Port::Signal(*channel, *v, *changed),
+        Seen::Fifo(channel, _, free) => Port::Fifo(FifoPort::new(*channel, *free)),
     }
 }

@@ -1,26 +1,29 @@
 ghost use Rattle.std.specs.Prelude.{◌≡◌, slice_set};
 
+use crate::fifo_values::FifoValues;
 use crate::job_parts::set_item;
 use crate::parts::Lent;
 use crate::ports::Ports;
 use ooo_code::Cells;
 use ooo_value::Value;
 
-/// Parts that stand in lists: the locals, all variables of a design, and a port for each channel that is seen.
+/// Parts that stand in lists: the locals, all variables of a design, and a port for each channel that is seen. The values
+/// of fifos stand where their owner has them.
 #[derive(Drop)]
-pub struct Whole {
+pub struct Whole<F> {
     pub slots: Vec<Value>,
     pub variables: Vec<Cells>,
     pub ports: Ports,
+    pub fifos: F,
 }
 
-impl Lent for Whole {
+impl<F: FifoValues> Lent for Whole<F> {
     ghost use Rattle.ooo_interp.specs.Ports.{all_shown};
 
     ghost sight = { λ w. record {
       slots = w.slots.items;
       variables = w.variables.items;
-      seen = all_shown w.ports;
+      seen = all_shown (F.values w.fifos) w.ports;
     } };
 
     ghost kept = { λ w. tt };
@@ -44,14 +47,14 @@ impl Lent for Whole {
 
     fn first(&self, channel: u32) -> Option<Value> {
         match self.ports.fifo(channel) {
-            Some(fifo) => fifo.first(),
+            Some(fifo) => fifo.first(&self.fifos),
             None => None,
         }
     }
 
     fn available(&self, channel: u32) -> i32 {
         match self.ports.fifo(channel) {
-            Some(fifo) => fifo.available(),
+            Some(fifo) => fifo.available(&self.fifos),
             None => 0,
         }
     }
@@ -75,7 +78,7 @@ impl Lent for Whole {
     }
 
     fn take(&mut self, channel: u32) {
-        self.ports.take(channel);
+        self.ports.take(channel, &self.fifos);
     }
 
     fn put(&mut self, channel: u32) {

@@ -19,8 +19,10 @@ use Rattle.ooo_code.specs.Segments.{Accesses, IsNodeOf, nodes_of}
 use Rattle.ooo_code.specs.Sound.{IsSound, FitsProcess}
 use Rattle.ooo_code.specs.Touches.{Touch}
 use Rattle.ooo_interp.specs.declared.port.Port.{Port}
-use Rattle.ooo_interp.specs.declared.processes.Ran.{Ran}
-use Rattle.ooo_interp.specs.Jobs.{activation_of, job_end, ran_on}
+use Rattle.ooo_interp.specs.declared.doing.Emitted.{Emitted}
+use Rattle.ooo_interp.specs.declared.doing.Halt.{Halt}
+use Rattle.ooo_interp.specs.Acting.{entry_after, job_end}
+use Rattle.ooo_interp.specs.Jobs.{activation_of, comes_to}
 use Rattle.ooo_interp.specs.Ports.{all_shown}
 use Rattle.ooo_meaning.specs.World.{World, view_of}
 use Rattle.ooo_channels.specs.Operations.{Operations}
@@ -28,8 +30,8 @@ use Rattle.ooo_plain.specs.declared.engine.Process.{Process}
 use Rattle.ooo_plain.specs.declared.engine.Engine.{Engine}
 use Rattle.ooo_plain.specs.Laws.{Laws}
 use Rattle.ooo_plain.specs.Seeing.{all_open}
-use Rattle.ooo_plain.specs.Opening.{IsSeenIn}
-use Rattle.ooo_plain.specs.Engine.{AreNames, Mirrors, Acts, frame_of, frames_of, no_frame, outcome_at}
+use Rattle.ooo_plain.specs.Opening.{IsSeenIn, OpenFifos, readable_by}
+use Rattle.ooo_plain.specs.Engine.{AreShownTo, Mirrors, Acts, frame_of, frames_of, no_frame, outcome_at}
 use Rattle.ooo_plain.proofs.Seen.{is_named}
 use Rattle.ooo_plain.specs.Shown.{one_of, shown_by}
 use Rattle.ooo_plain.proofs.Holders.{entry_own, reach_own, node_at}
@@ -60,12 +62,12 @@ module _ (laws : Laws) (design : Design) (sound : IsSound design) (statements p 
     frame_at x is = get_or-map frame_of old.processes.items p x no_frame (let c = count in omega (arith, c, lt)) ∙ ap frame_of (sym is)
 
     -- the names of the process's channels
-    pub known : (names : Vec ℕ) → names ≡ get_or old.names.items p names → AreNames design process names.items
+    pub known : (names : Vec ℕ) → names ≡ get_or old.shown_channels.items p names → AreShownTo design process names.items
     known names is =
-        subst (AreNames design process) (get_or-map (λ v. v.items) old.names.items p names [] (let c = m.names.count in let l = length-map old.names.items (λ v. v.items) in omega (arith, c, l, lt)) ∙ ap (λ v. v.items) (sym is))
-        (m.names.each p process lt at_p)
+        subst (AreShownTo design process) (get_or-map (λ v. v.items) old.shown_channels.items p names [] (let c = m.shown_channels.count in let l = length-map old.shown_channels.items (λ v. v.items) in omega (arith, c, l, lt)) ∙ ap (λ v. v.items) (sym is))
+        (m.shown_channels.each p process lt at_p)
 
-    missing : (names : List ℕ) → AreNames design process names → (entry : SegmentEntry) → IsNodeOf process (entry_node design process entry)
+    missing : (names : List ℕ) → AreShownTo design process names → (entry : SegmentEntry) → IsNodeOf process (entry_node design process entry)
         → (c : ℕ) (t : Touch) → Accesses design process entry t → shown_by (length design.channels) t ≡ one_of (length design.channels) c → is_named w.stamp.time w.channels c names ≡ false → length w.channels ≤ c
     missing names h entry own c t a shows e =
         ⊎_elim
@@ -80,8 +82,8 @@ module _ (laws : Laws) (design : Design) (sound : IsSound design) (statements p 
         (cases_lt c (length design.channels))
 
     -- what is lent is what the process sees
-    pub lent_is : (x : Process) → x ≡ get_or old.processes.items p x → (names : Vec ℕ) → names ≡ get_or old.names.items p names → (ports : List Port) → all_shown ports ≡ all_open w names.items
-        → outcome_at design statements p (frames_of old) w ≡ activation_of design (record { process = p; entry = x.entry; stamp = old.stamp; statements = statements }) (record { slots = x.slots.items; variables = old.parts.variables.items; seen = all_shown ports })
+    pub lent_is : (x : Process) → x ≡ get_or old.processes.items p x → (names : Vec ℕ) → names ≡ get_or old.shown_channels.items p names → (ports : List Port) → all_shown (readable_by old.bank old.stamp) ports ≡ all_open w names.items
+        → outcome_at design statements p (frames_of old) w ≡ activation_of design (record { process = p; entry = x.entry; stamp = old.stamp; statements = statements }) (record { slots = x.slots.items; variables = old.variables.items; seen = all_shown (readable_by old.bank old.stamp) ports })
     lent_is x is names named ports shows =
         let frame : Frame = frame_of x in
         let same : get_or (frames_of old) p no_frame ≡ frame = frame_at x is in
@@ -90,7 +92,7 @@ module _ (laws : Laws) (design : Design) (sound : IsSound design) (statements p 
         let opens = same_activation design sound p process at_p fits frame own w m.stands.ends names.items (missing names.items (known names named) frame.entry own) statements
         (λ a b agree. laws.reads design statements p process frame a b at_p agree) (λ a. laws.changes design statements p process frame a at_p) in
         ap (λ f. by_nodes design statements p f (view_of p w)) same ∙ opens
-        ∙ view_same w.stamp old.stamp m.stamp w.variables old.parts.variables.items m.variables (all_open w names.items) (all_shown ports) (sym shows) frame frame refl
+        ∙ view_same w.stamp old.stamp m.stamp w.variables old.variables.items m.variables (all_open w names.items) (all_shown (readable_by old.bank old.stamp) ports) (sym shows) frame frame refl
       where
         view_same : (s t : Stamp) → s ≡ t → (v u : List (List Value)) → v ≡ u → (a b : List Seen) → a ≡ b → (f g : Frame) → f ≡ g
             → by_nodes design statements p f (record { stamp = s; variables = v; seen = a }) ≡ by_nodes design statements p g (record { stamp = t; variables = u; seen = b })
@@ -98,27 +100,37 @@ module _ (laws : Laws) (design : Design) (sound : IsSound design) (statements p 
 
   -- ---- the engine after it
 
-  module _ (x z : Process) (is : x ≡ get_or old.processes.items p x) (names : Vec ℕ) (named : names ≡ get_or old.names.items p names) (ports : List Port)
-      (shows : (w : World) (ops : Operations) → IsSeenIn design old.bank old.stamp ops w → all_shown ports ≡ all_open w names.items)
-      (slots after_slots left : Vec Value) (slots_is : slots ≡ x.slots) (left_is : left ≡ after_slots) (after_variables : Vec (List Value)) (after_ports : List Port) (ran : Ran)
-      (does : activation_of design (record { process = p; entry = x.entry; stamp = old.stamp; statements = statements }) (record { slots = slots.items; variables = old.parts.variables.items; seen = all_shown ports })
-      ≡ ran_on ran (record { slots = after_slots.items; variables = after_variables.items; seen = all_shown after_ports }))
-      (new : Engine) (rest : new ≡ record old { processes = new.processes; parts = new.parts; room = new.room })
-      (items : new.processes.items ≡ set (set old.processes.items p z) p (record { entry = ran.entry; slots = left })) (variables_new : new.parts.variables ≡ after_variables) where
-    left_by : Vec Value → Process
-    left_by v = record { entry = ran.entry; slots = v }
+  module _ (x z : Process) (is : x ≡ get_or old.processes.items p x) (names : Vec ℕ) (named : names ≡ get_or old.shown_channels.items p names) (ports : List Port)
+      (shows : (w : World) (ops : Operations) → IsSeenIn design old.bank old.stamp ops w → all_shown (readable_by old.bank old.stamp) ports ≡ all_open w names.items)
+      (slots : Vec Value) (slots_is : slots ≡ x.slots) (variables : Vec (List Value)) (variables_is : variables ≡ old.variables) (lent_ports : List Port) (ports_is : lent_ports ≡ ports)
+      (fifos : OpenFifos) (fifos_is : fifos ≡ record { bank = old.bank; at = old.stamp })
+      (after_slots : Vec Value) (after_variables : Vec (List Value)) (after_seen : List Seen) (emitted : Emitted) (halt : Halt) (entry : SegmentEntry) (entry_is : entry ≡ entry_after x.entry halt)
+      (does : activation_of design (record { process = p; entry = x.entry; stamp = old.stamp; statements = statements }) (record { slots = slots.items; variables = variables.items; seen = all_shown (readable_by fifos.bank fifos.at) lent_ports })
+      ≡ comes_to x.entry emitted halt (record { slots = after_slots.items; variables = after_variables.items; seen = after_seen }))
+      (new : Engine) (rest : new ≡ record old { processes = new.processes; variables = new.variables; ports = new.ports })
+      (items : new.processes.items ≡ set (set old.processes.items p z) p (record { entry = entry; slots = after_slots })) (variables_new : new.variables ≡ after_variables) where
+    came : List (List Value) → SegmentEntry → Outcome Frame
+    came vs entry = record { deed = record { output = emitted.output.items; variables = vs; effects = emitted.effects.items; end = job_end halt }; next = record { entry = entry; slots = after_slots.items } }
 
-    items' : new.processes.items ≡ set (set old.processes.items p z) p (record { entry = ran.entry; slots = after_slots })
-    unfolding left_by
-    items' = items ∙ ap (λ v. set (set old.processes.items p z) p (left_by v)) left_is
+    opened : OpenFifos
+    opened = record { bank = old.bank; at = old.stamp }
 
-    pub acts : Acts design statements p old new ran
+    lent_by : Vec Value → Vec (List Value) → List Port → OpenFifos → Outcome Frame
+    lent_by ss vs ps fs = activation_of design (record { process = p; entry = x.entry; stamp = old.stamp; statements = statements }) (record { slots = ss.items; variables = vs.items; seen = all_shown (readable_by fs.bank fs.at) ps })
+
+    same : lent_by x.slots old.variables ports opened ≡ lent_by slots variables lent_ports fifos
+    unfolding opened
+    same =
+        ap (λ ss. lent_by ss old.variables ports opened) (sym slots_is) ∙ ap (λ vs. lent_by slots vs ports opened) (sym variables_is) ∙ ap (λ ps. lent_by slots variables ps opened) (sym ports_is)
+        ∙ ap (lent_by slots variables lent_ports) (sym fifos_is)
+
+    pub acts : Acts design statements p old new emitted halt
+    unfolding came lent_by opened
     acts = record {
       rest = rest;
-      frame = record { entry = ran.entry; slots = after_slots.items };
-      frames = ap (map frame_of) (items' ∙ set-set old.processes.items p z (record { entry = ran.entry; slots = after_slots })) ∙ map-set frame_of old.processes.items p (record { entry = ran.entry; slots = after_slots });
+      frame = record { entry = entry; slots = after_slots.items };
+      frames = ap (map frame_of) (items ∙ set-set old.processes.items p z (record { entry = entry; slots = after_slots })) ∙ map-set frame_of old.processes.items p (record { entry = entry; slots = after_slots });
       does = λ w ops m.
           lent_is w ops m x is names named ports (shows w ops (seen_in design old ops w m))
-          ∙ ap (λ ss. activation_of design (record { process = p; entry = x.entry; stamp = old.stamp; statements = statements }) (record { slots = ss; variables = old.parts.variables.items; seen = all_shown ports })) (ap (λ v. v.items) (sym slots_is))
-          ∙ does ∙ ap (λ vs. let o : Outcome Frame = record { deed = record { output = ran.output.items; variables = vs; effects = ran.effects.items; end = job_end ran.end }; next = record { entry = ran.entry; slots = after_slots.items } } in o) (ap (λ v. v.items) (sym variables_new));
+          ∙ same ∙ does ∙ ap (λ vs. came vs (entry_after x.entry halt)) (ap (λ v. v.items) (sym variables_new)) ∙ ap (came new.variables.items) (sym entry_is);
     }

@@ -12,10 +12,10 @@ use Rattle.ooo_channels.specs.Operations.{Operations}
 use Rattle.ooo_channels.specs.Calls.{FiresAt}
 use Rattle.ooo_channels.specs.Conditions.{HasEventAt}
 use Rattle.ooo_channels.specs.Bank.{BankState, IsBankAfter}
-use Rattle.ooo_plain.specs.declared.schedule.Held.{Held}
+use Rattle.ooo_plain.specs.declared.schedule.Awaited.{Awaited}
 use Rattle.ooo_plain.specs.declared.schedule.Schedule.{Schedule}
 use Rattle.ooo_plain.specs.Agenda.{due_in}
-use Rattle.ooo_plain.specs.Schedule.{nothing_held, held_at, alone, waits_on, waiting_on, KnowsWaiters, IsLeastOf, MayAskFor, MayAskAll, IsAsked, RefreshedOne, AskedAnew, Touched, TouchedSoFar, TouchedOthers}
+use Rattle.ooo_plain.specs.Schedule.{nothing_awaited, awaited_at, alone, waits_on, waiting_on, KnowsWaiters, IsLeastOf, MayAskFor, MayAskAll, IsAsked, RefreshedOne, AskedAnew, Touched, TouchedSoFar, TouchedOthers}
 use Rattle.ooo_plain.proofs.Least.{neither}
 
 -- there is one first stamp
@@ -58,17 +58,17 @@ least_of_one bank now (e ∷ (f ∷ fs)) r one is ops b by first firsts = absurd
 
 -- ---- one process among all
 
-pub held_is : (xs : List Held) (q : ℕ) (x : Held) → q < length xs → x ≡ get_or xs q x → held_at xs q ≡ x
-held_is xs q x lt e = sym (get_or_read xs q x lt e nothing_held)
+pub awaited_is : (xs : List Awaited) (q : ℕ) (x : Awaited) → q < length xs → x ≡ get_or xs q x → awaited_at xs q ≡ x
+awaited_is xs q x lt e = sym (get_or_read xs q x lt e nothing_awaited)
 
-pub may_ask : (bank : BankState) (s : Schedule) (q : ℕ) (x : Held) → MayAskAll bank s → q < length s.held.items → x ≡ get_or s.held.items q x → MayAskFor bank x.events
+pub may_ask : (bank : BankState) (s : Schedule) (q : ℕ) (x : Awaited) → MayAskAll bank s → q < length s.awaited.items → x ≡ get_or s.awaited.items q x → MayAskFor bank x.events
 may_ask bank s q x m lt is = record {
   ops = m.ops;
   bank_is = m.bank_is;
-  known = subst (λ h. All (HasEventAt m.ops) h.events) (held_is s.held.items q x lt is) (m.known q);
+  known = subst (λ h. All (HasEventAt m.ops) h.events) (awaited_is s.awaited.items q x lt is) (m.known q);
 }
 
-pub may_ask_alone : (bank : BankState) (s : Schedule) (q e : ℕ) → MayAskAll bank s → held_at s.held.items q ≡ alone e → MayAskFor bank (e ∷ [])
+pub may_ask_alone : (bank : BankState) (s : Schedule) (q e : ℕ) → MayAskAll bank s → awaited_at s.awaited.items q ≡ alone e → MayAskFor bank (e ∷ [])
 may_ask_alone bank s q e m is = record {
   ops = m.ops;
   bank_is = m.bank_is;
@@ -76,7 +76,7 @@ may_ask_alone bank s q e m is = record {
 }
 
 pub asked_so : (now : Stamp) (s : Schedule) (a : List (Option Stamp)) (q : ℕ) (due : Option Stamp) → a ≡ slice_set s.agenda q due → ¬ (due_in s.agenda q ≡ Some now)
-    → (bank : BankState) → IsAsked bank now (held_at s.held.items q) due → RefreshedOne q bank now s (record s { agenda = a })
+    → (bank : BankState) → IsAsked bank now (awaited_at s.awaited.items q) due → RefreshedOne q bank now s (record s { agenda = a })
 asked_so now s a q due same not bank asked = record {
   rest = refl;
   due = due;
@@ -84,13 +84,13 @@ asked_so now s a q due same not bank asked = record {
   asked = inl (not, asked);
 }
 
-pub asked_one : (bank : BankState) (now : Stamp) (s : Schedule) (a : List (Option Stamp)) (q : ℕ) (x : Held) (due : Option Stamp) → q < length s.held.items → x ≡ get_or s.held.items q x → a ≡ slice_set s.agenda q due
+pub asked_one : (bank : BankState) (now : Stamp) (s : Schedule) (a : List (Option Stamp)) (q : ℕ) (x : Awaited) (due : Option Stamp) → q < length s.awaited.items → x ≡ get_or s.awaited.items q x → a ≡ slice_set s.agenda q due
     → ¬ (due_in s.agenda q ≡ Some now) → IsAsked bank now x due → RefreshedOne q bank now s (record s { agenda = a })
 asked_one bank now s a q x due lt is same not asked = record {
   rest = refl;
   due = due;
   agenda = same;
-  asked = inl (not, subst (λ h. IsAsked bank now h due) (sym (held_is s.held.items q x lt is)) asked);
+  asked = inl (not, subst (λ h. IsAsked bank now h due) (sym (awaited_is s.awaited.items q x lt is)) asked);
 }
 
 pub not_asked : (bank : BankState) (now : Stamp) (s : Schedule) (q : ℕ) → due_in s.agenda q ≡ Some now → q < length s.agenda → RefreshedOne q bank now s s
@@ -117,7 +117,7 @@ take_contains xs n p lt h =
       | inr b ↦ inr (only (get_or xs n 0) p b)
     ]
 
-module _ (bank : BankState) (now : Stamp) (h : Held) where
+module _ (bank : BankState) (now : Stamp) (h : Awaited) where
   pub joined : (X : Type 0) (o m d : Option Stamp) → AskedAnew bank now h o m ⊎ ((m ≡ o) × X) → AskedAnew bank now h m d → AskedAnew bank now h o d
   joined X o m d (inl (inl a)) (inl r) = inl (a.0, r.1)
   joined X o m d (inl (inr a)) (inl r) = absurd (r.0 (a.0 ∙ a.1))
@@ -137,28 +137,28 @@ module _ (bank : BankState) (now : Stamp) (i n q : ℕ) (old mid new : Schedule)
     count = ap length r.agenda ∙ length-set mid.agenda q r.due ∙ h.count;
     each = λ p below. ⊎_elim (λ e. inl (here p e below)) (λ ne. there p ne below) (cases_eq p q);
   } where
-    asked : AskedAnew bank now (held_at old.held.items q) (due_in mid.agenda q) r.due
-    asked = subst (λ m. AskedAnew bank now (held_at m.held.items q) (due_in mid.agenda q) r.due) h.rest r.asked
+    asked : AskedAnew bank now (awaited_at old.awaited.items q) (due_in mid.agenda q) r.due
+    asked = subst (λ m. AskedAnew bank now (awaited_at m.awaited.items q) (due_in mid.agenda q) r.due) h.rest r.asked
 
-    here : (p : ℕ) → p ≡ q → p < length old.agenda → AskedAnew bank now (held_at old.held.items p) (due_in old.agenda p) (due_in new.agenda p)
-    here p e below = subst (λ x. AskedAnew bank now (held_at old.held.items x) (due_in old.agenda x) (due_in new.agenda x)) (sym e)
-        (subst (AskedAnew bank now (held_at old.held.items q) (due_in old.agenda q)) (sym (ap (λ a. due_in a q) r.agenda ∙ get_or-set_same mid.agenda q r.due None within))
-        (joined bank now (held_at old.held.items q) (¬ Contains (take n (waiting_on old i)) q) (due_in old.agenda q) (due_in mid.agenda q) r.due (h.each q (subst (λ x. x < length old.agenda) e below)) asked))
+    here : (p : ℕ) → p ≡ q → p < length old.agenda → AskedAnew bank now (awaited_at old.awaited.items p) (due_in old.agenda p) (due_in new.agenda p)
+    here p e below = subst (λ x. AskedAnew bank now (awaited_at old.awaited.items x) (due_in old.agenda x) (due_in new.agenda x)) (sym e)
+        (subst (AskedAnew bank now (awaited_at old.awaited.items q) (due_in old.agenda q)) (sym (ap (λ a. due_in a q) r.agenda ∙ get_or-set_same mid.agenda q r.due None within))
+        (joined bank now (awaited_at old.awaited.items q) (¬ Contains (take n (waiting_on old i)) q) (due_in old.agenda q) (due_in mid.agenda q) r.due (h.each q (subst (λ x. x < length old.agenda) e below)) asked))
 
-    there : (p : ℕ) → p ≢ q → p < length old.agenda → AskedAnew bank now (held_at old.held.items p) (due_in old.agenda p) (due_in new.agenda p) ⊎ ((due_in new.agenda p ≡ due_in old.agenda p) × ¬ Contains (take (n + 1) (waiting_on old i)) p)
+    there : (p : ℕ) → p ≢ q → p < length old.agenda → AskedAnew bank now (awaited_at old.awaited.items p) (due_in old.agenda p) (due_in new.agenda p) ⊎ ((due_in new.agenda p ≡ due_in old.agenda p) × ¬ Contains (take (n + 1) (waiting_on old i)) p)
     there p ne below =
         let same : due_in new.agenda p ≡ due_in mid.agenda p = ap (λ a. due_in a p) r.agenda ∙ get_or-set_other mid.agenda q p r.due None ne in
         elim (h.each p below) [
-          | inl a ↦ inl (subst (AskedAnew bank now (held_at old.held.items p) (due_in old.agenda p)) (sym same) a)
+          | inl a ↦ inl (subst (AskedAnew bank now (awaited_at old.awaited.items p) (due_in old.agenda p)) (sym same) a)
           | inr a ↦ inr (same ∙ a.0, λ c. ⊎_elim (λ x. a.1 x) (λ x. ne (x ∙ sym is)) (take_contains (waiting_on old i) n p lt c))
         ]
 
 -- the next one waits on the event alone
-pub touched_others : (bank : BankState) (now : Stamp) (e n q : ℕ) (old mid : Schedule) → TouchedSoFar e n bank now old mid → n < length (waiting_on old e) → MayAskAll bank old → held_at mid.held.items q ≡ alone e → TouchedOthers e n bank now old mid
+pub touched_others : (bank : BankState) (now : Stamp) (e n q : ℕ) (old mid : Schedule) → TouchedSoFar e n bank now old mid → n < length (waiting_on old e) → MayAskAll bank old → awaited_at mid.awaited.items q ≡ alone e → TouchedOthers e n bank now old mid
 touched_others bank now e n q old mid h lt may is = record {
   so_far = h;
   within = omega (arith, lt);
-  known = λ more. may_ask_alone bank old q e may (ap {A = Schedule} (λ s. held_at s.held.items q) (sym h.rest) ∙ is);
+  known = λ more. may_ask_alone bank old q e may (ap {A = Schedule} (λ s. awaited_at s.awaited.items q) (sym h.rest) ∙ is);
 }
 
 -- all were asked
@@ -195,7 +195,7 @@ pub touched_none : (bank : BankState) (now : Stamp) (s : Schedule) → Touched [
 touched_none bank now s = record { rest = refl; count = refl; each = λ p lt. inr (refl, λ e c. absurd (let l = c.1 in omega (arith, l))) }
 
 -- none of these events is waited on
-abbrev pub Spared : Held → List ℕ → Type 0
+abbrev pub Spared : Awaited → List ℕ → Type 0
 Spared h xs = (e : ℕ) → Contains xs e → waits_on e h ≡ false
 
 pub touched_both : (bank : BankState) (now : Stamp) (es fs : List ℕ) (old mid new : Schedule) → Touched es bank now old mid → Touched fs bank now mid new → Touched (es ++ fs) bank now old new
@@ -203,11 +203,11 @@ touched_both bank now es fs old mid new h k = record {
   rest = k.rest ∙ ap {A = Schedule} (λ e. record e { agenda = new.agenda }) h.rest;
   count = k.count ∙ h.count;
   each = λ p lt.
-      let held : held_at mid.held.items p ≡ held_at old.held.items p = ap {A = Schedule} (λ m. held_at m.held.items p) h.rest in
+      let awaited : awaited_at mid.awaited.items p ≡ awaited_at old.awaited.items p = ap {A = Schedule} (λ m. awaited_at m.awaited.items p) h.rest in
       elim (k.each p (let c = h.count in omega (arith, lt, c))) [
-        | inl a ↦ inl (joined bank now (held_at old.held.items p) ((e : ℕ) → Contains es e → waits_on e (held_at old.held.items p) ≡ false) _ _ _ (h.each p lt) (subst (λ x. AskedAnew bank now x (due_in mid.agenda p) (due_in new.agenda p)) held a))
-        | inr a ↦ stayed bank now (held_at old.held.items p) (Spared (held_at old.held.items p) es) (Spared (held_at old.held.items p) fs) (Spared (held_at old.held.items p) (es ++ fs)) (due_in old.agenda p) (due_in mid.agenda p) (due_in new.agenda p)
-            (λ x y e c. ⊎_elim (x e) (y e) (Contains-append_cases es fs e c)) (h.each p lt) (a.0, λ e c. ap (waits_on e) (sym held) ∙ a.1 e c)
+        | inl a ↦ inl (joined bank now (awaited_at old.awaited.items p) ((e : ℕ) → Contains es e → waits_on e (awaited_at old.awaited.items p) ≡ false) _ _ _ (h.each p lt) (subst (λ x. AskedAnew bank now x (due_in mid.agenda p) (due_in new.agenda p)) awaited a))
+        | inr a ↦ stayed bank now (awaited_at old.awaited.items p) (Spared (awaited_at old.awaited.items p) es) (Spared (awaited_at old.awaited.items p) fs) (Spared (awaited_at old.awaited.items p) (es ++ fs)) (due_in old.agenda p) (due_in mid.agenda p) (due_in new.agenda p)
+            (λ x y e c. ⊎_elim (x e) (y e) (Contains-append_cases es fs e c)) (h.each p lt) (a.0, λ e c. ap (waits_on e) (sym awaited) ∙ a.1 e c)
       ];
 }
 

@@ -26,14 +26,14 @@ use Rattle.ooo_plain.proofs.Order.{IsBefore-irrefl}
 use Rattle.ooo_plain.proofs.Opening.{an_element}
 use Rattle.ooo_channels.specs.Bank.{BankState, IsBankAfter}
 use Rattle.ooo_plain.specs.declared.engine.Engine.{Engine}
-use Rattle.ooo_plain.specs.declared.schedule.Held.{Held}
+use Rattle.ooo_plain.specs.declared.schedule.Awaited.{Awaited}
 use Rattle.ooo_plain.specs.declared.schedule.Schedule.{Schedule}
 use Rattle.ooo_plain.specs.Agenda.{due_in}
-use Rattle.ooo_plain.specs.Schedule.{nothing_held, held_at, waits_on, lists_of, MayAsk, IsAsked, Waits, IsNew}
+use Rattle.ooo_plain.specs.Schedule.{nothing_awaited, awaited_at, waits_on, lists_of, MayAsk, IsAsked, Waits, IsNew}
 use Rattle.ooo_plain.specs.Laws.{Laws}
-use Rattle.ooo_plain.specs.Tracking.{will_run, held_of, IsPlanned}
-use Rattle.ooo_plain.specs.Engine.{AreOf, AreNamesOf, AreNotices, frames_of}
-use Rattle.ooo_plain.specs.Starting.{first_world_of, first_operations, AreNoticesOf, AreBegun, AreFirstProcesses, first_cells, Starts}
+use Rattle.ooo_plain.specs.Tracking.{will_run, awaited_of, IsPlanned}
+use Rattle.ooo_plain.specs.Engine.{AreOf, AreShownChannels, AreChannelEvents, frames_of}
+use Rattle.ooo_plain.specs.Starting.{first_world_of, first_operations, AreFirstChannelEvents, AreBegun, AreFirstProcesses, first_cells, Starts}
 use Rattle.ooo_plain.proofs.Turning.{has_event, have_events, signal_some}
 use Rattle.ooo_plain.proofs.Waits.{due_at}
 
@@ -54,19 +54,19 @@ there channels c h = ⊎_elim (λ lt. lt) (λ le. absurd (let no : false ≡ tru
 fifo_in : (channels : List BoundChannel) (c : ℕ) → IsSome (fifo_kind (slice_get channels c)) → c < length channels
 fifo_in channels c h = ⊎_elim (λ lt. lt) (λ le. absurd (let no : false ≡ true = sym (ap (λ o. is_some (fifo_kind o)) (slice_get_past channels c le)) ∙ h in cc)) (cases_lt c (length channels))
 
-pub notices_none : (design : Design) (lists : List (List ℕ)) → lists ≡ replicate (length design.channels) no_numbers → AreNoticesOf design 0 lists
-notices_none design lists e = record {
+pub events_none : (design : Design) (lists : List (List ℕ)) → lists ≡ replicate (length design.channels) no_numbers → AreFirstChannelEvents design 0 lists
+events_none design lists e = record {
   count = ap length e ∙ length-replicate (length design.channels) no_numbers;
   within = λ c. subst (All (λ e. e < length design.events)) (sym (ap (λ xs. get_or xs c []) e ∙ get_empty (length design.channels) c)) (All-nil (λ e. e < length design.events));
   all = λ i k lt. absurd (omega (arith, lt));
 }
 
-module _ (design : Design) (e : ℕ) (kind : BoundEvent) (is : slice_get design.events e ≡ Some kind) (old new : List (List ℕ)) (so_far : AreNoticesOf design e old) where
+module _ (design : Design) (e : ℕ) (kind : BoundEvent) (is : slice_get design.events e ≡ Some kind) (old new : List (List ℕ)) (so_far : AreFirstChannelEvents design e old) where
   same_kind : (i : ℕ) (k : BoundEvent) → i ≡ e → slice_get design.events i ≡ Some k → kind ≡ k
   same_kind i k same at = let f : Some kind ≡ Some k = sym is ∙ ap (slice_get design.events) (sym same) ∙ at in cc
 
-  pub notices_more : (c : ℕ) → channel_of kind ≡ c → c < length old → new ≡ set old c (get_or old c [] ++ e ∷ []) → AreNoticesOf design (e + 1) new
-  notices_more c of lt new_is = record {
+  pub event_joins : (c : ℕ) → channel_of kind ≡ c → c < length old → new ≡ set old c (get_or old c [] ++ e ∷ []) → AreFirstChannelEvents design (e + 1) new
+  event_joins c of lt new_is = record {
     count = ap length new_is ∙ length-set old c _ ∙ so_far.count;
     within = λ b. ⊎_elim
         (λ f. subst (λ x. All (λ i. i < length design.events) (get_or new x [])) (sym f)
@@ -88,6 +88,14 @@ module _ (design : Design) (e : ℕ) (kind : BoundEvent) (is : slice_get design.
         (λ f. subst (λ b. Contains (get_or new b []) i) (sym f) (subst (λ xs. Contains xs i) (sym at_c) (Contains-append_left (get_or old c []) (e ∷ []) i (subst (λ b. Contains (get_or old b []) i) f h))))
         (λ nf. subst (λ xs. Contains xs i) (sym (at_other (channel_of k) nf)) h) (cases_eq (channel_of k) c)
 
+  -- an event of the model's own stands in no list
+  pub own_joins : kind ≡ event.Own → AreFirstChannelEvents design (e + 1) old
+  own_joins own = record {
+    count = so_far.count;
+    within = so_far.within;
+    all = λ i k below at ne. ⊎_elim (λ f. absurd (ne (sym (same_kind i k f at) ∙ own))) (λ nf. so_far.all i k (omega (arith, below, nf)) at ne) (cases_eq i e);
+  }
+
 -- an event's channel has its list
 channel_there : (channels : List BoundChannel) (k : BoundEvent) → k ≢ event.Own → FitsEvent channels k → channel_of k < length channels
 channel_there channels event.Own ne h = absurd (ne refl)
@@ -97,13 +105,13 @@ channel_there channels (event.Fall c) ne h = there channels c (signal_some _ h)
 channel_there channels (event.Written c) ne h = fifo_in channels c h
 channel_there channels (event.Taken c) ne h = fifo_in channels c h
 
-pub notice_c : (design : Design) (sound : IsSound design) (e : ℕ) (kind : BoundEvent) → slice_get design.events e ≡ Some kind → (c : ℕ) → channel_of kind ≡ c → kind ≢ event.Own → (old : List (List ℕ)) → AreNoticesOf design e old → c < length old
-notice_c design sound e kind is c of ne old h =
+pub list_there : (design : Design) (sound : IsSound design) (e : ℕ) (kind : BoundEvent) → slice_get design.events e ≡ Some kind → (c : ℕ) → channel_of kind ≡ c → kind ≢ event.Own → (old : List (List ℕ)) → AreFirstChannelEvents design e old → c < length old
+list_there design sound e kind is c of ne old h =
     let fits = subst (FitsEvent design.channels) (get_or_from_slice_get design.events e kind kind is) (sound.events e kind (slice_get_within design.events e kind is)) in
     let l = channel_there design.channels kind ne fits in let n = h.count in omega (arith, l, n, of)
 
-pub notices_all : (design : Design) (n : ℕ) (lists : List (List ℕ)) → length design.events ≤ n → AreNoticesOf design n lists → AreNotices design lists
-notices_all design n lists le h = record { count = h.count; within = h.within; all = λ e k is ne. h.all e k (let l = slice_get_within design.events e k is in omega (arith, l, le)) is ne }
+pub events_all : (design : Design) (n : ℕ) (lists : List (List ℕ)) → length design.events ≤ n → AreFirstChannelEvents design n lists → AreChannelEvents design lists
+events_all design n lists le h = record { count = h.count; within = h.within; all = λ e k is ne. h.all e k (let l = slice_get_within design.events e k is in omega (arith, l, le)) is ne }
 
 -- ---- who is due, and who waits
 
@@ -116,17 +124,17 @@ pub begun_none : (design : Design) (s : Schedule) → IsNew (length design.proce
 begun_none design s h = record {
   count = ap length h.agenda ∙ length-replicate {A = Option Stamp} (length design.processes) None;
   dues = λ q lt. absurd (omega (arith, lt));
-  held = λ q lt. absurd (omega (arith, lt));
+  awaited = λ q lt. absurd (omega (arith, lt));
   known = λ q. subst (λ x. All (λ e. e < length s.waiters.items) x.events) (sym (at q)) (All-nil (λ e. e < length s.waiters.items));
   knows = record {
-    count = ap length h.agenda ∙ length-replicate {A = Option Stamp} (length design.processes) None ∙ sym (ap length h.held ∙ length-replicate (length design.processes) nothing_held);
+    count = ap length h.agenda ∙ length-replicate {A = Option Stamp} (length design.processes) None ∙ sym (ap length h.awaited ∙ length-replicate (length design.processes) nothing_awaited);
     all = λ p e y. absurd (let no : false ≡ true = sym (ap (waits_on e) (at p)) ∙ y in cc);
-    within = λ e. subst (All (λ q. q < length s.held.items)) (sym (ap (λ ws. get_or ws e []) h.waiters ∙ get_empty (length design.events) e)) (All-nil (λ q. q < length s.held.items));
+    within = λ e. subst (All (λ q. q < length s.awaited.items)) (sym (ap (λ ws. get_or ws e []) h.waiters ∙ get_empty (length design.events) e)) (All-nil (λ q. q < length s.awaited.items));
   };
   lists = sym (length-map s.waiters.items (λ v. v.items)) ∙ ap length h.waiters ∙ length-replicate (length design.events) no_numbers;
 } where
-  at : (q : ℕ) → held_at s.held.items q ≡ nothing_held
-  at q = ap (λ xs. held_at xs q) h.held ∙ get_same (length design.processes) q nothing_held
+  at : (q : ℕ) → awaited_at s.awaited.items q ≡ nothing_awaited
+  at q = ap (λ xs. awaited_at xs q) h.awaited ∙ get_same (length design.processes) q nothing_awaited
 
 abbrev pub wait_of : Proc → Wait
 wait_of x = first_wait x.initialize x.sensitive
@@ -154,16 +162,16 @@ module _ (laws : Laws) (design : Design) (sound : IsSound design) (p : ℕ) (x :
         (λ e. subst (λ i. due_in new.agenda i ≡ will_run zero_stamp (update w0).slots (wait_at w0.waits i)) (sym e)
         (ap (λ a. due_in a p) agenda ∙ get_or-set_same old.agenda p (Some zero_stamp) None (let n = h.count in omega (arith, lt, n)) ∙ sym (ap (will_run zero_stamp (update w0).slots) (wait_p ∙ ap (λ b. first_wait b x.sensitive) init))))
         (λ ne. ap (λ a. due_in a q) agenda ∙ get_or-set_other old.agenda p q (Some zero_stamp) None ne ∙ h.dues q (below_p q l ne)) (cases_eq q p);
-    held = λ q l r. ⊎_elim
+    awaited = λ q l r. ⊎_elim
         (λ e. absurd (let no : true ≡ false = sym (ap (λ y. y.runnable) (ap (wait_at w0.waits) e ∙ wait_p ∙ ap (λ b. first_wait b x.sensitive) init)) ∙ r in cc))
-        (λ ne. h.held q (below_p q l ne) r) (cases_eq q p);
+        (λ ne. h.awaited q (below_p q l ne) r) (cases_eq q p);
     known = h.known;
     knows = record { count = ap length agenda ∙ length-set old.agenda p (Some zero_stamp) ∙ h.knows.count; all = h.knows.all; within = h.knows.within };
     lists = h.lists;
   })
 
   module _ (later : x.initialize ≡ false) (bank : BankState) (bank_is : IsBankAfter bank (first_operations design)) where
-    abbrev own : Held
+    abbrev own : Awaited
     own = record { events = x.sensitive; timeout = None }
 
     waits_p : wait_at w0.waits p ≡ record { runnable = false; events = x.sensitive; timeout = Nothing }
@@ -175,27 +183,27 @@ module _ (laws : Laws) (design : Design) (sound : IsSound design) (p : ℕ) (x :
       within = subst (λ n. All (λ e. e < n) x.sensitive) (sym h.lists) sensitive_known;
     }
 
-    pub begun_waits : (hl : Held) → hl ≡ own → (new : Schedule) → Waits p hl bank zero_stamp old new → AreBegun design (p + 1) new
+    pub begun_waits : (hl : Awaited) → hl ≡ own → (new : Schedule) → Waits p hl bank zero_stamp old new → AreBegun design (p + 1) new
     begun_waits hl hl_is new w = record {
       count = ap length w.agenda ∙ length-set old.agenda p w.due ∙ h.count;
       dues = λ q l. ⊎_elim
           (λ e. subst (λ i. due_in new.agenda i ≡ will_run zero_stamp (update w0).slots (wait_at w0.waits i)) (sym e)
           (ap (λ a. due_in a p) w.agenda ∙ get_or-set_same old.agenda p w.due None (let n = h.count in omega (arith, lt, n)) ∙ due_is ∙ sym (ap (will_run zero_stamp (update w0).slots) waits_p)))
           (λ ne. ap (λ a. due_in a q) w.agenda ∙ get_or-set_other old.agenda p q w.due None ne ∙ h.dues q (below_p q l ne)) (cases_eq q p);
-      held = λ q l r. ⊎_elim
-          (λ e. held_p q e ∙ sym (ap held_of (ap (wait_at w0.waits) e ∙ waits_p)))
-          (λ ne. held_q q ne ∙ h.held q (below_p q l ne) r) (cases_eq q p);
-      known = λ q. subst (λ n. All (λ e. e < n) (held_at new.held.items q).events) (sym w.count) (⊎_elim
-          (λ e. subst (λ y. All (λ i. i < length old.waiters.items) y.events) (sym (held_p q e)) may_wait.within)
-          (λ ne. subst (λ y. All (λ i. i < length old.waiters.items) y.events) (sym (held_q q ne)) (h.known q)) (cases_eq q p));
+      awaited = λ q l r. ⊎_elim
+          (λ e. awaited_p q e ∙ sym (ap awaited_of (ap (wait_at w0.waits) e ∙ waits_p)))
+          (λ ne. awaited_q q ne ∙ h.awaited q (below_p q l ne) r) (cases_eq q p);
+      known = λ q. subst (λ n. All (λ e. e < n) (awaited_at new.awaited.items q).events) (sym w.count) (⊎_elim
+          (λ e. subst (λ y. All (λ i. i < length old.waiters.items) y.events) (sym (awaited_p q e)) may_wait.within)
+          (λ ne. subst (λ y. All (λ i. i < length old.waiters.items) y.events) (sym (awaited_q q ne)) (h.known q)) (cases_eq q p));
       knows = w.knows;
       lists = w.count ∙ h.lists;
     } where
-      held_p : (q : ℕ) → q ≡ p → held_at new.held.items q ≡ own
-      held_p q e = ap (λ a. held_at a q) w.held ∙ ap (held_at (set old.held.items p hl)) e ∙ get_or-set_same old.held.items p hl nothing_held (let a = h.knows.count in let n = h.count in omega (arith, lt, a, n)) ∙ hl_is
+      awaited_p : (q : ℕ) → q ≡ p → awaited_at new.awaited.items q ≡ own
+      awaited_p q e = ap (λ a. awaited_at a q) w.awaited ∙ ap (awaited_at (set old.awaited.items p hl)) e ∙ get_or-set_same old.awaited.items p hl nothing_awaited (let a = h.knows.count in let n = h.count in omega (arith, lt, a, n)) ∙ hl_is
 
-      held_q : (q : ℕ) → q ≢ p → held_at new.held.items q ≡ held_at old.held.items q
-      held_q q ne = ap (λ a. held_at a q) w.held ∙ get_or-set_other old.held.items p q hl nothing_held ne
+      awaited_q : (q : ℕ) → q ≢ p → awaited_at new.awaited.items q ≡ awaited_at old.awaited.items q
+      awaited_q q ne = ap (λ a. awaited_at a q) w.awaited ∙ get_or-set_other old.awaited.items p q hl nothing_awaited ne
 
       agrees0 : Agrees (first_operations design) w0
       agrees0 = (laws.starts design).0
@@ -214,17 +222,17 @@ planned0 design s h = record {
   dues = ext_get_or None s.agenda (map (will_run zero_stamp (update (first_world_of design)).slots) (first_world_of design).waits)
       (h.count ∙ sym (length-map (first_world_of design).waits (will_run zero_stamp (update (first_world_of design)).slots) ∙ waits_count design))
       (λ q lt. h.dues q (let n = h.count in omega (arith, lt, n)) ∙ sym (get_or-map (will_run zero_stamp (update (first_world_of design)).slots) (first_world_of design).waits q never None (let n = h.count in let l = waits_count design in omega (arith, lt, n, l))));
-  held = λ q r. ⊎_elim
-      (λ lt. h.held q lt r)
-      (λ le. get_or_past s.held.items q nothing_held (let a = h.knows.count in let n = h.count in omega (arith, le, a, n)) ∙ ap held_of (sym (get_or_past (first_world_of design).waits q never (let l = waits_count design in omega (arith, le, l)))))
+  awaited = λ q r. ⊎_elim
+      (λ lt. h.awaited q lt r)
+      (λ le. get_or_past s.awaited.items q nothing_awaited (let a = h.knows.count in let n = h.count in omega (arith, le, a, n)) ∙ ap awaited_of (sym (get_or_past (first_world_of design).waits q never (let l = waits_count design in omega (arith, le, l)))))
       (cases_lt q (length design.processes));
   known = h.known;
   knows = h.knows;
 }
 
 pub engine_starts : (laws : Laws) (design : Design) (sound : IsSound design) (e : Engine) → AreBegun design (length design.processes) e.schedule → IsBankAfter e.bank (first_operations design) → AreFirstProcesses design.processes e.processes.items
-    → AreNamesOf design (length design.processes) (lists_of e.names.items) → AreNotices design (lists_of e.notices.items) → e.parts.variables.items ≡ first_cells design.variables → e.output.items ≡ [] → e.stamp ≡ zero_stamp → e.last ≡ zero_stamp → e.activations ≡ 0 → e.stopped ≡ false → Starts design e
-engine_starts laws design sound e begun bank processes names notices variables output stamp last activations stopped = record {
+    → AreShownChannels design (length design.processes) (lists_of e.shown_channels.items) → AreChannelEvents design (lists_of e.channel_events.items) → e.variables.items ≡ first_cells design.variables → e.output.items ≡ [] → e.stamp ≡ zero_stamp → e.last ≡ zero_stamp → e.activations ≡ 0 → e.stopped ≡ false → Starts design e
+engine_starts laws design sound e begun bank processes names channel_events variables output stamp last activations stopped = record {
   mirrors = record {
     of = record { channels = refl; events = refl };
     agrees = (laws.starts design).0;
@@ -244,8 +252,8 @@ engine_starts laws design sound e begun bank processes names notices variables o
       entries = λ p pr frame at is. entry p pr frame is;
       known = λ p. known p;
     };
-    names = names;
-    notices = notices;
+    shown_channels = names;
+    channel_events = channel_events;
     lists = begun.lists;
   };
   planned = planned0 design e.schedule begun;

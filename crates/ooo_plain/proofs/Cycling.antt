@@ -19,7 +19,7 @@ use Rattle.ooo_channels.specs.Operations.{Operations, later_of, after_forgetting
 use Rattle.ooo_channels.specs.Bank.{BankState, IsBankAfter}
 use Rattle.ooo_channels.specs.Agreement.{GoesOn, HasHistories, shown_up_to}
 use Rattle.ooo_plain.specs.declared.engine.Engine.{Engine}
-use Rattle.ooo_plain.specs.declared.cycles.Then.TheVariants as then
+use Rattle.ooo_plain.specs.declared.cycles.CycleEnd.TheVariants as cycle_end
 use Rattle.ooo_plain.specs.Agenda.{due_in}
 use Rattle.ooo_plain.specs.Laws.{Laws}
 use Rattle.ooo_plain.specs.Tracking.{IsPlanned}
@@ -209,8 +209,8 @@ module _ (laws : Laws) (design : Design) (limits : Limits) (old mid : Engine) (w
                 stopped = o.keeps.stopped ∙ k.stopped;
                 whole = o.keeps.broken ∙ k.whole;
                 stands = stands;
-                names = k.names;
-                notices = k.notices;
+                shown_channels = k.shown_channels;
+                channel_events = k.channel_events;
                 lists = k.lists;
               };
               planned = o.planned;
@@ -224,7 +224,7 @@ module _ (laws : Laws) (design : Design) (limits : Limits) (o x : Option End) (s
   evaluated : (w : World) (ops : Operations) → Mirrors design old ops w → IsPlanned old.schedule w → Evaluated design limits.statements o old mid w
   evaluated w ops m h = subst (λ y. Evaluated design limits.statements y old mid w) same (ev.each w ops m h)
 
-  pub cycled_over : (e : End) (at : Stamp) → ((w : World) → Evaluated design limits.statements o old mid w → Overs design limits e at old mid w) → Cycles design limits (then.Over e at) old mid
+  pub cycled_over : (e : End) (at : Stamp) → ((w : World) → Evaluated design limits.statements o old mid w → Overs design limits e at old mid w) → Cycles design limits (cycle_end.Over e at) old mid
   cycled_over e at f = record { activations = ev.activations; nears = tt; each = λ w ops m h. f w (evaluated w ops m h) }
 
 module _ (laws : Laws) (design : Design) (limits : Limits) (x : Option End) (same : x ≡ None) (old mid : Engine) (ev : Evaluates design limits.statements x old mid)
@@ -232,7 +232,7 @@ module _ (laws : Laws) (design : Design) (limits : Limits) (x : Option End) (sam
   was_mid : IsWithin limits mid.stamp
   was_mid = subst (IsWithin limits) (sym ev.stamp) was
 
-  pub cycled_on : (bank : BankState) → ((ops : Operations) → IsBankAfter mid.bank ops → IsBankAfter bank (after_forgetting t ops)) → Cycles design limits then.Goes old (record mid { stamp = t; bank = bank })
+  pub cycled_on : (bank : BankState) → ((ops : Operations) → IsBankAfter mid.bank ops → IsBankAfter bank (after_forgetting t ops)) → Cycles design limits cycle_end.Goes old (record mid { stamp = t; bank = bank })
   cycled_on bank after =
       let r = evaluated laws design limits None x same old mid ev may.world may.ops may.mirrors may.planned in
       let in_range = within laws design limits old mid may.world r going t first range small le was_mid in

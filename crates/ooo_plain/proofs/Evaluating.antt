@@ -19,7 +19,7 @@ use Rattle.ooo_channels.specs.Operations.{Operations}
 use Rattle.ooo_plain.specs.declared.engine.Engine.{Engine}
 use Rattle.ooo_plain.specs.Agenda.{due_in, AllFrom, Takes}
 use Rattle.ooo_plain.specs.Tracking.{IsPlanned, IsPlannedBut}
-use Rattle.ooo_plain.specs.Schedule.{KnowsWaiters, held_at}
+use Rattle.ooo_plain.specs.Schedule.{KnowsWaiters, awaited_at}
 use Rattle.ooo_plain.specs.declared.schedule.Schedule.{Schedule}
 use Rattle.ooo_plain.specs.Engine.{Mirrors, Prints, Turned, MayTurn, frames_of, no_frame, outcome_at}
 use Rattle.ooo_plain.specs.Cycles.{MayGo, Passed, still, HadTurns, HaveTurns, Evaluated, Evaluates}
@@ -50,20 +50,20 @@ module _ (design : Design) (e : Engine) (ops : Operations) (w : World) (m : Mirr
       stopped = m.stopped;
       whole = m.whole;
       stands = m.stands;
-      names = m.names;
-      notices = m.notices;
+      shown_channels = m.shown_channels;
+      channel_events = m.channel_events;
       lists = ap {A = Schedule} (λ x. length x.waiters.items) rest ∙ m.lists;
     }
 
-    held_same : s.held ≡ e.schedule.held
-    held_same = ap {A = Schedule} (λ x. x.held) rest
+    awaited_same : s.awaited ≡ e.schedule.awaited
+    awaited_same = ap {A = Schedule} (λ x. x.awaited) rest
 
     pub planned_taken : IsPlannedBut p s w
     planned_taken = record {
       count = ap length agenda ∙ length-set e.schedule.agenda p None ∙ same_count e.schedule w m.timely h;
       dues = λ q ne. ap (λ a. due_in a q) agenda ∙ get_or-set_other e.schedule.agenda p q None None ne ∙ due_is e.schedule w m.timely h q;
-      held = λ q ne r. ap {A = Schedule} (λ x. held_at x.held.items q) rest ∙ h.held q r;
-      known = λ q. subst (λ x. All (λ i. i < length x.waiters.items) (held_at x.held.items q).events) (sym rest) (h.known q);
+      awaited = λ q ne r. ap {A = Schedule} (λ x. awaited_at x.awaited.items q) rest ∙ h.awaited q r;
+      known = λ q. subst (λ x. All (λ i. i < length x.waiters.items) (awaited_at x.awaited.items q).events) (sym rest) (h.known q);
       knows = subst KnowsWaiters (sym rest) (record { count = ap length agenda ∙ length-set e.schedule.agenda p None ∙ h.knows.count; all = h.knows.all; within = h.knows.within });
     }
 

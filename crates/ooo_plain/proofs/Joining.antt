@@ -6,9 +6,9 @@ use Rattle.std.proofs.lemmas.Bool.{cases_eq}
 use Rattle.std.proofs.lemmas.List.Folds.{list_any_at}
 use Rattle.std.specs.Prelude.{All, Contains}
 use Rattle.std.specs.List.{list_any}
-use Rattle.ooo_plain.specs.declared.schedule.Held.{Held}
+use Rattle.ooo_plain.specs.declared.schedule.Awaited.{Awaited}
 use Rattle.ooo_plain.specs.declared.schedule.Schedule.{Schedule}
-use Rattle.ooo_plain.specs.Schedule.{Joined, waiting_on, KnowsWaiters, held_at, waits_on}
+use Rattle.ooo_plain.specs.Schedule.{Joined, waiting_on, KnowsWaiters, awaited_at, waits_on}
 use Rattle.ooo_plain.proofs.Asking.{only}
 
 here : (y : ℕ) → Contains (y ∷ []) y
@@ -44,7 +44,7 @@ joined_none old e p h = record {
   within = λ n below k. k;
 }
 
-pub joined_same : (old : Schedule) (p : ℕ) (h : Held) (es : List ℕ) → KnowsWaiters old → held_at old.held.items p ≡ h → h.events ≡ es → Joined p es old old
+pub joined_same : (old : Schedule) (p : ℕ) (h : Awaited) (es : List ℕ) → KnowsWaiters old → awaited_at old.awaited.items p ≡ h → h.events ≡ es → Joined p es old old
 joined_same old p h es knows is same = record {
   rest = refl;
   count = refl;

@@ -1,6 +1,6 @@
 -- What the bank shows of channels is open to see in the world.
-use Rattle.std.proofs.Common.{◌≡◌, ℕ, ◌+◌, ◌<◌, ◌≤◌, Bool, true, false, if◌then◌else◌, arith, List, [], ◌∷◌, ◌++◌, Some, refl, sym, subst, ap, ◌∙◌, get_or, map, length, take, drop, length-append, length-drop}
-use Rattle.std.proofs.lemmas.List.{take_more, take_all, length-map, get_or-map, length-take-le, get_or-take, map-append}
+use Rattle.std.proofs.Common.{◌≡◌, ℕ, ◌+◌, ◌<◌, ◌≤◌, Bool, true, false, if◌then◌else◌, arith, ◌-◌, zero, suc, append-nil, List, [], ◌∷◌, ◌++◌, Option, Some, None, refl, sym, subst, ap, ◌∙◌, get_or, map, length, take, drop, length-append, length-drop}
+use Rattle.std.proofs.lemmas.List.{take_more, length-map, get_or-map, length-take-le, get_or-take, map-append}
 use Rattle.std.proofs.lemmas.Option.{slice_get-get_or, get_or_from_slice_get, slice_get_within}
 use Rattle.std.specs.Prelude.{slice_get, All, AllPairs}
 use Rattle.ooo_time.specs.declared.time.Time.{Time}
@@ -17,20 +17,21 @@ use Rattle.ooo_code.specs.Sound.{IsSound, FitsChannel}
 use Rattle.ooo_interp.specs.declared.port.Port.{Port}
 use Rattle.ooo_interp.specs.declared.port.Port.TheVariants as port
 use Rattle.ooo_interp.specs.declared.fifo_port.FifoPort.{FifoPort}
-use Rattle.ooo_interp.specs.Ports.{channel_of, shown, all_shown}
+use Rattle.ooo_interp.specs.Ports.{ValuesOf, channel_of, shown, all_shown}
 use Rattle.ooo_meaning.specs.World.{World, channel_at, same_stamp, next_delta}
+use Rattle.ooo_channels.specs.declared.fifo.FifoState.{FifoState}
 use Rattle.ooo_channels.specs.declared.channel.ChannelState.{ChannelState}
 use Rattle.ooo_channels.specs.declared.channel.ChannelState.TheVariants as state
 use Rattle.ooo_channels.specs.Operations.{Operations}
 use Rattle.ooo_channels.specs.Cycles.{Cycle, cycle_of, cycle_at, channel_in, readable, writable, values_left, later_channel, IsSeenAs}
 use Rattle.ooo_channels.specs.Calls.{channel_calls}
 use Rattle.ooo_channels.specs.Conditions.{HasChannel, ChannelIsBy}
-use Rattle.ooo_channels.specs.Kept.{HasKind, IsChannelAfter}
+use Rattle.ooo_channels.specs.Kept.{HasKind, IsChannelAfter, IsFifoIn}
 use Rattle.ooo_channels.specs.Bank.{BankState, IsBankAfter}
 use Rattle.ooo_channels.specs.Agreement.{IsShown, core}
 use Rattle.ooo_plain.specs.Laws.{Laws}
 use Rattle.ooo_plain.specs.Seeing.{open_seen, all_open}
-use Rattle.ooo_plain.specs.Opening.{IsSeenIn, MayOpen, OpensTo, MayOpenFifo, HasValues, ReadSoFar}
+use Rattle.ooo_plain.specs.Opening.{IsSeenIn, MayOpen, OpensTo, is_fifo, is_fifo_kind, readable_at, readable_by, readable_of}
 use Rattle.ooo_plain.proofs.Viewing.{signal_is, fifo_is}
 
 -- ---- a fifo in its cycle has room for what it holds
@@ -98,23 +99,73 @@ fits_bank bank ops c h there = go (get_or bank.channels c d) (h.channel_kinds c 
     go (state.Signal s) k a = absurd (subst (λ j. HasKind j (state.Signal s)) there.kind k)
     go (state.Fifo f) k a = subst FitsIn a.cycle.channel a.cycle.fits
 
--- ---- values, one after another
+-- ---- the values that a bank keeps
 
-pub read_none : (bank : BankState) (at : Stamp) (c : ℕ) → ReadSoFar bank at c 0 []
-read_none bank at c ops h there = refl
+later_readable : (s : Stamp) (x : Cycle) (g : Fifo) → IsFifo g ≡ x.channel → readable (later_channel s x) ≡ available g ++ g.written
+later_readable s x g is = go (same_stamp s (next_delta x.stamp))
+  where
+    go : (b : Bool) → readable (if b then updated x.stamp.time x.channel else updated s.time (updated x.stamp.time x.channel)) ≡ available g ++ g.written
+    go true = ap (λ c. readable (updated x.stamp.time c)) (sym is)
+    go false = ap (λ c. readable (updated s.time (updated x.stamp.time c))) (sym is) ∙ append-nil (available g ++ g.written)
 
-pub read_more : (bank : BankState) (at : Stamp) (c n : ℕ) (values : List Value) (v : Value) → ReadSoFar bank at c n values
-    → ((ops : Operations) (s : Stamp) → IsBankAfter bank ops → HasChannel ops c kind.Fifo → n < length (readable (channel_in s ops c)) → slice_get (readable (channel_in s ops c)) n ≡ Some v)
-    → ((ops : Operations) → IsBankAfter bank ops → HasChannel ops c kind.Fifo → n < length (readable (channel_in at ops c))) → ReadSoFar bank at c (n + 1) (values ++ v ∷ [])
-read_more bank at c n values v h is below ops b there =
-    let lt = below ops b there in
-    ap (λ xs. xs ++ v ∷ []) (h ops b there) ∙ sym (take_more (readable (channel_in at ops c)) n v lt ∙ ap (λ x. take n (readable (channel_in at ops c)) ++ x ∷ []) (get_or_from_slice_get (readable (channel_in at ops c)) n v v (is ops at b there lt)))
+take_front : (xs ys : List Value) (n : ℕ) → n ≡ length xs → take n (xs ++ ys) ≡ xs
+take_front [] ys zero e = refl
+take_front [] ys (suc n) e = absurd (omega (arith, e))
+take_front (x ∷ xs) ys zero e = absurd (omega (arith, e))
+take_front (x ∷ xs) ys (suc n) e = ap (λ zs. x ∷ zs) (take_front xs ys n (omega (arith, e)))
 
-pub read_all : (bank : BankState) (at : Stamp) (c n : ℕ) (values : List Value) → ReadSoFar bank at c n values → ((ops : Operations) → IsBankAfter bank ops → HasChannel ops c kind.Fifo → length (readable (channel_in at ops c)) ≤ n) → HasValues bank at c values
-read_all bank at c n values h le ops b there = h ops b there ∙ take_all n (readable (channel_in at ops c)) (le ops b there)
+fifo_readable : (s : FifoState) (x : Cycle) (at : Stamp) → IsFifoIn s x → readable_of at (state.Fifo s) ≡ readable (cycle_at at x).channel
+fifo_readable s x at h = go (is_before x.stamp at) refl
+  where
+    front : length s.values.items - s.written ≡ length (available h.fifo)
+    front = let a = ap length h.values in let b = length-append (available h.fifo) h.fifo.written in let d = h.written in omega (arith, a, b, d)
 
-pub may_read : (bank : BankState) (at : Stamp) (c n : ℕ) (m : MayOpenFifo bank c) → n < length (readable (channel_in at m.ops c)) → n < length (values_left (cycle_of m.ops c).channel)
-may_read bank at c n m lt = let l = left_at at (cycle_of m.ops c) in omega (arith, lt, l)
+    go : (b : Bool) → is_before x.stamp at ≡ b → readable_of at (state.Fifo s) ≡ readable (cycle_at at x).channel
+    go true e =
+        let before : is_before s.stamp at ≡ true = ap (λ t. is_before t at) h.stamp ∙ e in
+        rw (before, e) (sym h.values ∙ sym (later_readable at x h.fifo h.channel))
+    go false e =
+        let before : is_before s.stamp at ≡ false = ap (λ t. is_before t at) h.stamp ∙ e in
+        rw (before, e) (ap (take (length s.values.items - s.written)) (sym h.values) ∙ take_front (available h.fifo) h.fifo.written (length s.values.items - s.written) front ∙ ap readable h.channel)
+
+-- what the bank keeps of a fifo is what may be read of it
+pub readable_is : (bank : BankState) (ops : Operations) (at : Stamp) (c : ℕ) → IsBankAfter bank ops → HasChannel ops c kind.Fifo → readable_by bank at c ≡ readable (channel_in at ops c)
+readable_is bank ops at c h there =
+    ap (readable_at at) (slice_get-get_or bank.channels c d within) ∙ go (get_or bank.channels c d) (h.channel_kinds c d there.channel there.is) (h.channels c d within)
+  where
+    within : c < length bank.channels
+    within = let n = h.channel_count in let l = slice_get_within ops.channels c there.channel there.is in omega (arith, n, l)
+
+    d : ChannelState
+    d = an_element bank.channels c within
+
+    go : (x : ChannelState) → HasKind there.channel.kind x → IsChannelAfter c ops.below (cycle_of ops c) (channel_calls ops) x → readable_of at x ≡ readable (channel_in at ops c)
+    go (state.Signal s) k a = absurd (subst (λ j. HasKind j (state.Signal s)) there.kind k)
+    go (state.Fifo f) k a = fifo_readable f (cycle_of ops c) at a.cycle
+
+-- of what is no fifo nothing may be read
+pub none_readable : (design : Design) (bank : BankState) (ops : Operations) (at : Stamp) (c : ℕ) → IsBankAfter bank ops → ops.channels ≡ design.channels → is_fifo (slice_get design.channels c) ≡ false → readable_by bank at c ≡ []
+none_readable design bank ops at c h same e = go (slice_get bank.channels c) refl
+  where
+    fifo_kind : (k : ChannelKind) (f : FifoState) → HasKind k (state.Fifo f) → is_fifo_kind k ≡ true
+    fifo_kind kind.Signal f h = absurd h
+    fifo_kind kind.Fifo f h = refl
+
+    none : (f : FifoState) → slice_get bank.channels c ≡ Some (state.Fifo f) → is_fifo (slice_get design.channels c) ≡ true
+    none f is =
+        let lt : c < length ops.channels = let l = slice_get_within bank.channels c (state.Fifo f) is in let n = h.channel_count in omega (arith, l, n) in
+        let b : BoundChannel = get_or ops.channels c (an_element ops.channels c lt) in
+        let at_c : slice_get ops.channels c ≡ Some b = slice_get-get_or ops.channels c (an_element ops.channels c lt) lt in
+        let k : HasKind b.kind (state.Fifo f) = subst (HasKind b.kind) (get_or_from_slice_get bank.channels c (state.Fifo f) (state.Fifo f) is) (h.channel_kinds c (state.Fifo f) b at_c) in
+        ap (λ xs. is_fifo (slice_get xs c)) (sym same) ∙ ap is_fifo at_c ∙ fifo_kind b.kind f k
+
+    go : (o : Option ChannelState) → slice_get bank.channels c ≡ o → readable_by bank at c ≡ []
+    go None is = ap (readable_at at) is
+    go (Some (state.Signal s)) is = ap (readable_at at) is
+    go (Some (state.Fifo f)) is = absurd (let no : true ≡ false = sym (none f is) ∙ e in cc)
+
+pub may_read : (ops : Operations) (at : Stamp) (c n : ℕ) → n < length (readable (channel_in at ops c)) → n < length (values_left (cycle_of ops c).channel)
+may_read ops at c n lt = let l = left_at at (cycle_of ops c) in omega (arith, lt, l)
 
 -- ---- one channel
 
@@ -142,8 +193,8 @@ module _ (laws : Laws) (design : Design) (sound : IsSound design) (bank : BankSt
     pub not_later : ChannelIsBy ops c at
     not_later = subst (ChannelIsBy ops c) h.stamp (h.agrees.channels c (let l = slice_get_within design.channels c b is in let n = ap length h.channels in omega (arith, l, n))).by
 
-    pub signal_open : b.kind ≡ kind.Signal → (v : Value) (changed : Bool) → IsSeenAs (channel_in at ops c) at.time (v, changed) → shown (port.Signal c v changed) ≡ open_seen at.time c (channel_at w.channels c)
-    signal_open k v changed s =
+    pub signal_open : b.kind ≡ kind.Signal → (v : Value) (changed : Bool) → IsSeenAs (channel_in at ops c) at.time (v, changed) → (values : ValuesOf) → shown values (port.Signal c v changed) ≡ open_seen at.time c (channel_at w.channels c)
+    signal_open k v changed s values =
         let x = signal_is design w h.ends c b is k in
         let t : IsSeenAs (channel_in w.stamp ops c) w.stamp.time (v, changed) = subst (λ u. IsSeenAs (channel_in u ops c) u.time (v, changed)) (sym h.stamp) s in
         let there : IsSeenAs (IsSignal x.0) at.time (v, changed) = subst (λ u. IsSeenAs (IsSignal x.0) u.time (v, changed)) h.stamp (subst (λ y. IsSeenAs y w.stamp.time (v, changed)) x.1 (shown_of.signal (v, changed) t)) in
@@ -202,31 +253,56 @@ module _ (laws : Laws) (design : Design) (sound : IsSound design) (bank : BankSt
   pub signal_opens : Bound design c kind.Signal → (seen : Value × Bool) → ((ops : Operations) → IsBankAfter bank ops → HasChannel ops c kind.Signal → ChannelIsBy ops c at → IsSeenAs (channel_in at ops c) at.time seen) → OpensTo design bank at c (port.Signal c seen.0 seen.1)
   signal_opens b seen is = record {
     number = refl;
-    shows = λ w ops h. signal_open laws design sound bank at c b.channel b.is w ops h b.kind_is seen.0 seen.1 (is ops h.bank_is (has_channel laws design sound bank at c b.channel b.is kind.Signal b.kind_is ops h.channels) (not_later laws design sound bank at c b.channel b.is w ops h));
+    shows = λ w ops h. signal_open laws design sound bank at c b.channel b.is w ops h b.kind_is seen.0 seen.1 (is ops h.bank_is (has_channel laws design sound bank at c b.channel b.is kind.Signal b.kind_is ops h.channels) (not_later laws design sound bank at c b.channel b.is w ops h)) (readable_by bank at);
   }
 
-  module _ (b : Bound design c kind.Fifo) (values : List Value) (free : ℕ) (has : HasValues bank at c values) (is : (ops : Operations) → IsBankAfter bank ops → HasChannel ops c kind.Fifo → free ≡ writable (channel_in at ops c)) where
-    there : (ops : Operations) → ops.channels ≡ design.channels → HasChannel ops c kind.Fifo
+  module _ (b : Bound design c kind.Fifo) where
+    pub there : (ops : Operations) → ops.channels ≡ design.channels → HasChannel ops c kind.Fifo
     there ops same = has_channel laws design sound bank at c b.channel b.is kind.Fifo b.kind_is ops same
 
-    pub few : MayOpen design bank at → length values ≤ 65536
-    few m = values_few laws design sound bank at c b.channel b.is m.world m.ops m.seen b.kind_is values (has m.ops m.seen.bank_is (there m.ops m.seen.channels))
+    pub few : MayOpen design bank at → length (readable_by bank at c) ≤ 65536
+    few m = values_few laws design sound bank at c b.channel b.is m.world m.ops m.seen b.kind_is (readable_by bank at c) (readable_is bank m.ops at c m.seen.bank_is (there m.ops m.seen.channels))
 
-    pub small : MayOpen design bank at → free ≤ 65536
-    small m = free_small laws design sound bank at c b.channel b.is m.world m.ops m.seen b.kind_is free (is m.ops m.seen.bank_is (there m.ops m.seen.channels))
+    module _ (free : ℕ) (is : (ops : Operations) → IsBankAfter bank ops → HasChannel ops c kind.Fifo → free ≡ writable (channel_in at ops c)) where
+      pub small : MayOpen design bank at → free ≤ 65536
+      small m = free_small laws design sound bank at c b.channel b.is m.world m.ops m.seen b.kind_is free (is m.ops m.seen.bank_is (there m.ops m.seen.channels))
 
-    pub fifo_opens : (f : FifoPort) → f.channel ≡ c → drop f.taken f.values ≡ values → f.free ≡ free → OpensTo design bank at c (port.Fifo f)
-    fifo_opens f n v r = record {
-      number = n;
-      shows = λ w ops h. rw (n, v, r) (fifo_open laws design sound bank at c b.channel b.is w ops h b.kind_is values free (has ops h.bank_is (there ops h.channels)) (is ops h.bank_is (there ops h.channels)));
-    }
+      pub fifo_opens : (f : FifoPort) → f.channel ≡ c → f.taken ≡ 0 → f.free ≡ free → OpensTo design bank at c (port.Fifo f)
+      fifo_opens f n t r = record {
+        number = n;
+        shows = λ w ops h. rw (n, t, r) (fifo_open laws design sound bank at c b.channel b.is w ops h b.kind_is (readable_by bank at c) free (readable_is bank ops at c h.bank_is (there ops h.channels)) (is ops h.bank_is (there ops h.channels)));
+      }
+
+  -- a channel that is a fifo, and one of which something may be read
+  pub bound_fifo : is_fifo (slice_get design.channels c) ≡ true → Bound design c kind.Fifo
+  bound_fifo e = go (slice_get design.channels c) refl e
+    where
+      is_of : (k : ChannelKind) → is_fifo_kind k ≡ true → k ≡ kind.Fifo
+      is_of kind.Signal h = absurd (let no : false ≡ true = h in cc)
+      is_of kind.Fifo h = refl
+
+      go : (o : Option BoundChannel) → slice_get design.channels c ≡ o → is_fifo o ≡ true → Bound design c kind.Fifo
+      go None is h = absurd (let no : false ≡ true = h in cc)
+      go (Some x) is h = record { channel = x; is = is; kind_is = is_of x.kind h }
+
+  pub some_fifo : (n : ℕ) → MayOpen design bank at → n < length (readable_by bank at c) → Bound design c kind.Fifo
+  some_fifo n m lt = go (is_fifo (slice_get design.channels c)) refl
+    where
+      go : (b : Bool) → is_fifo (slice_get design.channels c) ≡ b → Bound design c kind.Fifo
+      go true e = bound_fifo e
+      go false e = let none : length (readable_by bank at c) ≡ 0 = ap length (none_readable design bank m.ops at c m.seen.bank_is m.seen.channels e) in absurd (omega (arith, none, lt))
+
+pub none_there : (xs : List Value) (n : ℕ) → length xs ≤ n → None ≡ slice_get xs n
+none_there [] n le = refl
+none_there (x ∷ xs) zero le = absurd (omega (arith, le))
+none_there (x ∷ xs) (suc n) le = none_there xs n (omega (arith, le))
 
 -- ---- ports, one after another
 
--- the ports of the first names
+-- the ports of the first channels
 pub record OpenedSoFar (design : Design) (bank : BankState) (at : Stamp) (names : List ℕ) (ports : List Port) : Type 0 where
   pub numbers : map channel_of ports ≡ names
-  pub shows : (w : World) (ops : Operations) → IsSeenIn design bank at ops w → all_shown ports ≡ all_open w names
+  pub shows : (w : World) (ops : Operations) → IsSeenIn design bank at ops w → all_shown (readable_by bank at) ports ≡ all_open w names
 
 pub opened_none : (design : Design) (bank : BankState) (at : Stamp) → OpenedSoFar design bank at [] []
 opened_none design bank at = record { numbers = refl; shows = λ w ops h. refl }
@@ -235,7 +311,7 @@ pub opened_more : (design : Design) (bank : BankState) (at : Stamp) (names : Lis
 opened_more design bank at names i d ports p lt h o = record {
   numbers = map-append channel_of ports (p ∷ []) ∙ ap (λ xs. xs ++ channel_of p ∷ []) h.numbers ∙ ap (λ x. take i names ++ x ∷ []) o.number ∙ sym (take_more names i d lt);
   shows = λ w ops s.
-      map-append shown ports (p ∷ []) ∙ ap (λ xs. xs ++ shown p ∷ []) (h.shows w ops s)
+      map-append (shown (readable_by bank at)) ports (p ∷ []) ∙ ap (λ xs. xs ++ shown (readable_by bank at) p ∷ []) (h.shows w ops s)
       ∙ ap (λ x. all_open w (take i names) ++ x ∷ []) (o.shows w ops s ∙ ap (λ u. open_seen u.time (get_or names i d) (channel_at w.channels (get_or names i d))) (sym s.stamp))
       ∙ sym (map-append (λ c. open_seen w.stamp.time c (channel_at w.channels c)) (take i names) (get_or names i d ∷ [])) ∙ ap (all_open w) (sym (take_more names i d lt));
 }

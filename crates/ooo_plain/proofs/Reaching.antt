@@ -11,7 +11,7 @@ use Rattle.ooo_history.specs.declared.run.Run.{Run}
 use Rattle.ooo_meaning.specs.World.{World, zero_stamp}
 use Rattle.ooo_meaning.specs.Sequence.{result_of}
 use Rattle.ooo_plain.specs.declared.engine.Engine.{Engine}
-use Rattle.ooo_plain.specs.declared.cycles.Then.TheVariants as then
+use Rattle.ooo_plain.specs.declared.cycles.CycleEnd.TheVariants as cycle_end
 use Rattle.ooo_plain.specs.Engine.{IsFew}
 use Rattle.ooo_plain.specs.Cycles.{AreInRange, IsOver, Cycles, MayGo, cycles_after}
 use Rattle.ooo_plain.specs.Running.{ShowsRun, ShowsOver, Reaches}
@@ -28,7 +28,7 @@ counts_below design limits e few range h =
     let m : cycles_after limits zero_stamp * n ≤ 4611690630113406332387904 * 4294967296 = mul-le (cycles_after limits zero_stamp) n 4611690630113406332387904 4294967296 b (omega (arith, f)) in
     let acts = h.activations in omega (arith, acts, m, f)
 
-pub reaches_next : (design : Design) (limits : Limits) (old new : Engine) → Cycles design limits then.Goes old new → Reaches design limits old → Reaches design limits new
+pub reaches_next : (design : Design) (limits : Limits) (old new : Engine) → Cycles design limits cycle_end.Goes old new → Reaches design limits old → Reaches design limits new
 reaches_next design limits old new c h =
     let f = c.each h.world h.turns.ops h.turns.mirrors h.turns.planned in
     record {
@@ -43,13 +43,13 @@ reaches_next design limits old new c h =
       run = λ r g. h.run r (f.run r g);
     }
 
-pub fewer_follow : (design : Design) (limits : Limits) (old new : Engine) → Cycles design limits then.Goes old new → cycles_after limits new.stamp < cycles_after limits old.stamp
+pub fewer_follow : (design : Design) (limits : Limits) (old new : Engine) → Cycles design limits cycle_end.Goes old new → cycles_after limits new.stamp < cycles_after limits old.stamp
 fewer_follow design limits old new c = c.nears.1
 
-pub is_over : (design : Design) (limits : Limits) (end : End) (at : Stamp) (old new : Engine) → Cycles design limits (then.Over end at) old new → Reaches design limits old → (w : World) × IsOver design new at w
+pub is_over : (design : Design) (limits : Limits) (end : End) (at : Stamp) (old new : Engine) → Cycles design limits (cycle_end.Over end at) old new → Reaches design limits old → (w : World) × IsOver design new at w
 is_over design limits end at old new c h = let f = c.each h.world h.turns.ops h.turns.mirrors h.turns.planned in (f.world, f.over)
 
-pub shows_run : (design : Design) (limits : Limits) (end : End) (at : Stamp) (old new : Engine) (run : Run) → Cycles design limits (then.Over end at) old new → Reaches design limits old → ShowsOver new at end run → ShowsRun design limits run
+pub shows_run : (design : Design) (limits : Limits) (end : End) (at : Stamp) (old new : Engine) (run : Run) → Cycles design limits (cycle_end.Over end at) old new → Reaches design limits old → ShowsOver new at end run → ShowsRun design limits run
 shows_run design limits end at old new run c h s =
     let f = c.each h.world h.turns.ops h.turns.mirrors h.turns.planned in
     record { result = result_of f.world end; is = h.run (result_of f.world end) f.run; shows = s design f.world f.over }

@@ -4,10 +4,11 @@ use Rattle.std.proofs.lemmas.Bool.{or_cases}
 use Rattle.std.proofs.lemmas.List.{take_all}
 use Rattle.std.proofs.lemmas.List.Folds.{list_any_more}
 use Rattle.std.proofs.lemmas.List.Elements.{Contains-append_left, Contains-append_right, All-cons, All-nil}
-use Rattle.std.specs.Prelude.{Contains}
+use Rattle.std.specs.Prelude.{◌⊎◌, Contains}
 use Rattle.std.specs.List.{list_any}
 use Rattle.ooo_value.specs.declared.bound.BoundEvent.{BoundEvent}
 use Rattle.ooo_value.specs.declared.bound.BoundEvent.TheVariants as event
+use Rattle.ooo_value.specs.declared.values.Value.{Value}
 use Rattle.ooo_time.specs.declared.time.Time.{Time}
 use Rattle.ooo_code.specs.declared.activation.Effect.{Effect}
 use Rattle.ooo_code.specs.declared.activation.Effect.TheVariants as effect
@@ -17,7 +18,7 @@ use Rattle.ooo_plain.specs.declared.engine.Engine.{Engine}
 use Rattle.ooo_plain.specs.declared.schedule.Schedule.{Schedule}
 use Rattle.ooo_plain.specs.Schedule.{lists_of, Touched, MayAskAll}
 use Rattle.ooo_plain.specs.Tracking.{affects}
-use Rattle.ooo_plain.specs.Engine.{AreNotices, HasLists, MayRefresh, Refreshed, MayTouch, Touches, notices_of}
+use Rattle.ooo_plain.specs.Engine.{AreChannelEvents, HasLists, MayRefresh, Refreshed, MayTouch, Touches, events_of_channel}
 use Rattle.ooo_plain.proofs.Asking.{touched_none, touched_both, touched_knows, touched_may}
 
 -- an effect on channel c affects events of channel c alone
@@ -32,6 +33,9 @@ IsOn c _ = ⊥
 
 no : {A : Type 0} → false ≡ true → A
 no e = absurd cc
+
+pub on_channel : (c : ℕ) (f : Effect) → ((v : Value) × (f ≡ effect.Request c v)) ⊎ (((v : Value) × (f ≡ effect.Put c v)) ⊎ (f ≡ effect.Take c)) → IsOn c f
+on_channel c f is = ⊎_elim (λ request. subst (IsOn c) (sym request.1) refl) (⊎_elim (λ put. subst (IsOn c) (sym put.1) refl) (λ take. subst (IsOn c) (sym take) refl)) is
 
 of_channel : (c e : ℕ) (f : Effect) → IsOn c f → (k : BoundEvent) → affects e k f ≡ true → IsOfChannel c k
 of_channel c e (effect.Request d v) on event.Own h = no h
@@ -62,20 +66,20 @@ one test f h = ⊎_elim (λ a. a) (λ a. no a) (or_cases (test f) false h)
 -- ---- one effect
 
 module _ (design : Design) (old new : Engine) where
-  pub may_touch : (f : Effect) (c : ℕ) → MayRefresh design old (f ∷ []) → (HasLists old f → c < length old.notices.items) → MayTouch old c
+  pub may_touch : (f : Effect) (c : ℕ) → MayRefresh design old (f ∷ []) → (HasLists old f → c < length old.channel_events.items) → MayTouch old c
   may_touch f c m is = record {
     within = is (m.lists 0 f (omega arith));
-    events = λ k d lt. let h = m.notices.within c k d lt in let n = m.count in omega (arith, h, n);
+    events = λ k d lt. let h = m.channel_events.within c k d lt in let n = m.count in omega (arith, h, n);
     knows = m.knows;
     may = m.may;
   }
 
-  pub channel_refreshed : (f : Effect) (c : ℕ) → IsOn c f → AreNotices design (lists_of old.notices.items) → Touches c old new → Refreshed design (f ∷ []) old new
-  channel_refreshed f c on notices h = record {
+  pub channel_refreshed : (f : Effect) (c : ℕ) → IsOn c f → AreChannelEvents design (lists_of old.channel_events.items) → Touches c old new → Refreshed design (f ∷ []) old new
+  channel_refreshed f c on channel_events h = record {
     rest = h.rest;
-    events = notices_of old c;
+    events = events_of_channel old c;
     touched = h.touched;
-    all = λ e k at any. let is = of_channel c e f on k (one (affects e k) f any) in subst (λ d. Contains (notices_of old d) e) is.1 (notices.all e k at is.0);
+    all = λ e k at any. let is = of_channel c e f on k (one (affects e k) f any) in subst (λ d. Contains (events_of_channel old d) e) is.1 (channel_events.all e k at is.0);
   }
 
   -- a call on an event affects it alone
@@ -152,7 +156,7 @@ module _ (design : Design) (fs : List Effect) (i : ℕ) (d : Effect) (old mid : 
   pub may_refresh : MayRefresh design old fs → MayRefresh design mid (get_or fs i d ∷ [])
   may_refresh m = record {
     lists = All-cons (HasLists mid) (get_or fs i d) [] (same_lists (get_or fs i d) (m.lists i d lt)) (All-nil (HasLists mid));
-    notices = subst (λ x. AreNotices design (lists_of x.notices.items)) (sym h.rest) m.notices;
+    channel_events = subst (λ x. AreChannelEvents design (lists_of x.channel_events.items)) (sym h.rest) m.channel_events;
     count = ap {A = Schedule} (λ x. length x.waiters.items) h.touched.rest ∙ m.count;
     knows = touched_knows old.bank old.stamp h.events old.schedule mid.schedule h.touched m.knows;
     may = subst (λ x. MayAskAll x.bank mid.schedule) (sym h.rest) (touched_may old.bank old.stamp h.events old.schedule mid.schedule h.touched m.may);

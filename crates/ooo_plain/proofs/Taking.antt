@@ -18,8 +18,9 @@ use Rattle.ooo_code.specs.Channels.{Channel, IsSignal, IsFifo, is_process, avail
 use Rattle.ooo_code.specs.Outcomes.{Deed, Outcome}
 use Rattle.ooo_code.specs.Sound.{IsSound}
 use Rattle.ooo_history.specs.declared.run.End.{End}
-use Rattle.ooo_interp.specs.declared.processes.Ran.{Ran}
-use Rattle.ooo_interp.specs.Jobs.{job_end}
+use Rattle.ooo_interp.specs.declared.doing.Emitted.{Emitted}
+use Rattle.ooo_interp.specs.declared.doing.Halt.{Halt}
+use Rattle.ooo_interp.specs.Acting.{job_end}
 use Rattle.ooo_meaning.specs.World.{World, wait_at, never, channel_at, no_channel, view_of, after_deed, wait_after, broken_by, place_of}
 use Rattle.ooo_channels.specs.Operations.{Operations, after_effects}
 use Rattle.ooo_channels.specs.Cycles.{channel_in, readable, writable}
@@ -28,11 +29,11 @@ use Rattle.ooo_channels.specs.Agreement.{Agrees, IsShown}
 use Rattle.ooo_channels.specs.Bank.{IsBankAfter}
 use Rattle.ooo_plain.specs.declared.engine.Engine.{Engine}
 use Rattle.ooo_plain.specs.declared.schedule.Schedule.{Schedule}
-use Rattle.ooo_plain.specs.Schedule.{held_at, lists_of, KnowsWaiters, Waits, MayAskAll, Touched}
+use Rattle.ooo_plain.specs.Schedule.{awaited_at, lists_of, KnowsWaiters, Waits, MayAskAll, Touched}
 use Rattle.ooo_plain.specs.Laws.{Laws}
 use Rattle.ooo_plain.specs.Fitting.{FitsEntry, FitsEnd, IsFitting}
-use Rattle.ooo_plain.specs.Tracking.{affects, held_of, IsPlannedBut}
-use Rattle.ooo_plain.specs.Engine.{AreOf, AreNamesOf, AreNotices, Stands, Prints, Mirrors, Acts, MayApply, Applied, HasLists, MayRefresh, Refreshed, Noted, MayClose, Closed, Rests, Stays, Breaks, Turns, TurnsTo, Turned, frames_of, no_frame, outcome_at, held_after, is_stop}
+use Rattle.ooo_plain.specs.Tracking.{affects, awaited_of, IsPlannedBut}
+use Rattle.ooo_plain.specs.Engine.{AreOf, AreShownChannels, AreChannelEvents, Stands, Prints, Mirrors, Acts, MayApply, Applied, HasLists, MayRefresh, Refreshed, Noted, MayClose, Closed, Rests, Stays, Breaks, Turns, TurnsTo, Turned, frames_of, no_frame, outcome_at, awaited_after, is_stop}
 use Rattle.ooo_plain.proofs.Effects.{HasRoomLeft, below_after}
 use Rattle.ooo_plain.proofs.Fitting.{activation_fits}
 use Rattle.ooo_plain.proofs.Seen.{as_fifo, fifo_of_all}
@@ -86,7 +87,7 @@ module _ (laws : Laws) (ops : Operations) (w : World) (agrees : Agrees ops w) (p
 
 -- ---- the steps
 
-module _ (laws : Laws) (design : Design) (sound : IsSound design) (statements p : ℕ) (old : Engine) (lt : p < length design.processes) (e1 : Engine) (ran : Ran) (acts : Acts design statements p old e1 ran)
+module _ (laws : Laws) (design : Design) (sound : IsSound design) (statements p : ℕ) (old : Engine) (lt : p < length design.processes) (e1 : Engine) (emitted : Emitted) (halt : Halt) (acts : Acts design statements p old e1 emitted halt)
     (w : World) (ops : Operations) (m : Mirrors design old ops w) where
   abbrev pub o : Outcome Frame
   o = outcome_at design statements p (frames_of old) w
@@ -96,10 +97,10 @@ module _ (laws : Laws) (design : Design) (sound : IsSound design) (statements p 
 
   -- how it ended
   abbrev pub end1 : JobEnd
-  end1 = job_end ran.end
+  end1 = job_end halt
 
   abbrev pub did : Outcome Frame
-  did = record { deed = record { output = ran.output.items; variables = e1.parts.variables.items; effects = ran.effects.items; end = end1 }; next = acts.frame }
+  did = record { deed = record { output = emitted.output.items; variables = e1.variables.items; effects = emitted.effects.items; end = end1 }; next = acts.frame }
 
   did_is : o ≡ did
   did_is = acts.does w ops m
@@ -110,7 +111,7 @@ module _ (laws : Laws) (design : Design) (sound : IsSound design) (statements p 
       (ordered laws ops w m.agrees p) (first_room laws ops w m.agrees p)
       (m.stands.entries p proc (get_or (frames_of old) p no_frame) (at_p laws design sound statements p old lt) (slice_get-get_or (frames_of old) p no_frame (let a = m.stands.frames_count in omega (arith, a, lt))))
 
-  effects_is : o.deed.effects ≡ ran.effects.items
+  effects_is : o.deed.effects ≡ emitted.effects.items
   effects_is = ap (λ x. x.deed.effects) did_is
 
   end_is : o.deed.end ≡ end1
@@ -119,32 +120,32 @@ module _ (laws : Laws) (design : Design) (sound : IsSound design) (statements p 
   stamp1 : e1.stamp ≡ w.stamp
   stamp1 = ap {A = Engine} (λ e. e.stamp) acts.rest ∙ sym m.stamp
 
-  names1 : All (Names ops) ran.effects.items
+  names1 : All (Names ops) emitted.effects.items
   names1 = subst (All (Names ops)) effects_is fitting.names
 
-  may1 : MayApplyAll ops e1.stamp ran.effects.items
-  may1 = subst (λ s. MayApplyAll ops s ran.effects.items) (sym stamp1) (subst (MayApplyAll ops w.stamp) effects_is fitting.may)
+  may1 : MayApplyAll ops e1.stamp emitted.effects.items
+  may1 = subst (λ s. MayApplyAll ops s emitted.effects.items) (sym stamp1) (subst (MayApplyAll ops w.stamp) effects_is fitting.may)
 
   bank1 : IsBankAfter e1.bank ops
   bank1 = subst (λ e. IsBankAfter e.bank ops) (sym acts.rest) m.bank
 
-  pub may_apply : MayApply e1 ran.effects.items
+  pub may_apply : MayApply e1 emitted.effects.items
   may_apply = record { ops = ops; bank = bank1; names = names1; may = may1; countable = subst (λ e. IsCountableStamp e.stamp) (sym acts.rest) m.countable }
 
-  module _ (planned : IsPlannedBut p old.schedule w) (e2 : Engine) (applied : Applied ran.effects.items e1 e2) where
+  module _ (planned : IsPlannedBut p old.schedule w) (e2 : Engine) (applied : Applied emitted.effects.items e1 e2) where
     abbrev pub ops2 : Operations
     ops2 = after_effects w.stamp ops o.deed.effects
 
     bank2 : IsBankAfter e2.bank ops2
-    bank2 = subst (λ fs. IsBankAfter e2.bank (after_effects w.stamp ops fs)) (sym effects_is) (subst (λ s. IsBankAfter e2.bank (after_effects s ops ran.effects.items)) stamp1 (applied.after ops bank1 may1))
+    bank2 = subst (λ fs. IsBankAfter e2.bank (after_effects w.stamp ops fs)) (sym effects_is) (subst (λ s. IsBankAfter e2.bank (after_effects s ops emitted.effects.items)) stamp1 (applied.after ops bank1 may1))
 
     pub of2 : AreOf design ops2
     of2 = of' laws design sound p w ops m.of m.agrees m.timely o.deed fitting.may
 
     lists : (f : Effect) → Names ops f → HasLists old f
-    lists (effect.Request c v) h = let l = slice_get_within ops.channels c h.channel h.is in let n = ap length m.of.channels in let k = m.notices.count in let j = length-map old.notices.items (λ v. v.items) in omega (arith, l, n, k, j)
-    lists (effect.Put c v) h = let l = slice_get_within ops.channels c h.channel h.is in let n = ap length m.of.channels in let k = m.notices.count in let j = length-map old.notices.items (λ v. v.items) in omega (arith, l, n, k, j)
-    lists (effect.Take c) h = let l = slice_get_within ops.channels c h.channel h.is in let n = ap length m.of.channels in let k = m.notices.count in let j = length-map old.notices.items (λ v. v.items) in omega (arith, l, n, k, j)
+    lists (effect.Request c v) h = let l = slice_get_within ops.channels c h.channel h.is in let n = ap length m.of.channels in let k = m.channel_events.count in let j = length-map old.channel_events.items (λ v. v.items) in omega (arith, l, n, k, j)
+    lists (effect.Put c v) h = let l = slice_get_within ops.channels c h.channel h.is in let n = ap length m.of.channels in let k = m.channel_events.count in let j = length-map old.channel_events.items (λ v. v.items) in omega (arith, l, n, k, j)
+    lists (effect.Take c) h = let l = slice_get_within ops.channels c h.channel h.is in let n = ap length m.of.channels in let k = m.channel_events.count in let j = length-map old.channel_events.items (λ v. v.items) in omega (arith, l, n, k, j)
     lists (effect.Notify e k) h = let l = slice_get_within ops.events e _ h in let n = ap length m.of.events in let j = m.lists in omega (arith, l, n, j)
     lists (effect.Cancel e) h = let l = slice_get_within ops.events e _ h in let n = ap length m.of.events in let j = m.lists in omega (arith, l, n, j)
     lists effect.Stop h = tt
@@ -152,7 +153,7 @@ module _ (laws : Laws) (design : Design) (sound : IsSound design) (statements p 
     lists2 : (f : Effect) → HasLists old f → HasLists e2 f
     lists2 f h = subst (λ e. HasLists e f) (sym applied.rest) (go1 f (subst (λ e. HasLists e f) (sym acts.rest) (go0 f h)))
       where
-        go0 : (f : Effect) → HasLists old f → HasLists (record old { processes = e1.processes; parts = e1.parts; room = e1.room }) f
+        go0 : (f : Effect) → HasLists old f → HasLists (record old { processes = e1.processes; variables = e1.variables; ports = e1.ports }) f
         go0 (effect.Request c v) h = h
         go0 (effect.Put c v) h = h
         go0 (effect.Take c) h = h
@@ -171,33 +172,33 @@ module _ (laws : Laws) (design : Design) (sound : IsSound design) (statements p 
     schedule2 : e2.schedule ≡ old.schedule
     schedule2 = ap {A = Engine} (λ e. e.schedule) applied.rest ∙ ap {A = Engine} (λ e. e.schedule) acts.rest
 
-    notices2 : e2.notices ≡ old.notices
-    notices2 = ap {A = Engine} (λ e. e.notices) applied.rest ∙ ap {A = Engine} (λ e. e.notices) acts.rest
+    channel_events2 : e2.channel_events ≡ old.channel_events
+    channel_events2 = ap {A = Engine} (λ e. e.channel_events) applied.rest ∙ ap {A = Engine} (λ e. e.channel_events) acts.rest
 
     stamp2 : e2.stamp ≡ w.stamp
     stamp2 = ap {A = Engine} (λ e. e.stamp) applied.rest ∙ stamp1
 
     ask2 : MayAskAll e2.bank old.schedule
-    ask2 = record { ops = ops2; bank_is = bank2; known = λ q. have_events design sound ops2 of2 (length old.schedule.waiters.items) m.lists (held_at old.schedule.held.items q).events (planned.known q) }
+    ask2 = record { ops = ops2; bank_is = bank2; known = λ q. have_events design sound ops2 of2 (length old.schedule.waiters.items) m.lists (awaited_at old.schedule.awaited.items q).events (planned.known q) }
 
-    pub may_refresh : MayRefresh design e2 ran.effects.items
+    pub may_refresh : MayRefresh design e2 emitted.effects.items
     may_refresh = record {
-      lists = λ k d below. lists2 (get_or ran.effects.items k d) (lists (get_or ran.effects.items k d) (names1 k d below));
-      notices = subst (λ n. AreNotices design (lists_of n.items)) (sym notices2) m.notices;
+      lists = λ k d below. lists2 (get_or emitted.effects.items k d) (lists (get_or emitted.effects.items k d) (names1 k d below));
+      channel_events = subst (λ n. AreChannelEvents design (lists_of n.items)) (sym channel_events2) m.channel_events;
       count = ap {A = Schedule} (λ s. length s.waiters.items) schedule2 ∙ m.lists;
       knows = subst KnowsWaiters (sym schedule2) planned.knows;
       may = subst (MayAskAll e2.bank) (sym schedule2) ask2;
     }
 
-    module _ (e3 e4 e5 : Engine) (refreshed : Refreshed design ran.effects.items e2 e3) (noted : Noted ran.output.items ran.effects.items e3 e4) (room5 : e5 ≡ record e4 { room = e5.room }) where
+    module _ (e3 e5 : Engine) (refreshed : Refreshed design emitted.effects.items e2 e3) (noted : Noted emitted.output.items emitted.effects.items e3 e5) where
       stamp5 : e5.stamp ≡ w.stamp
-      stamp5 = ap {A = Engine} (λ e. e.stamp) room5 ∙ ap {A = Engine} (λ e. e.stamp) noted.rest ∙ ap {A = Engine} (λ e. e.stamp) refreshed.rest ∙ stamp2
+      stamp5 = ap {A = Engine} (λ e. e.stamp) noted.rest ∙ ap {A = Engine} (λ e. e.stamp) refreshed.rest ∙ stamp2
 
       bank5 : e5.bank ≡ e2.bank
-      bank5 = ap {A = Engine} (λ e. e.bank) room5 ∙ ap {A = Engine} (λ e. e.bank) noted.rest ∙ ap {A = Engine} (λ e. e.bank) refreshed.rest
+      bank5 = ap {A = Engine} (λ e. e.bank) noted.rest ∙ ap {A = Engine} (λ e. e.bank) refreshed.rest
 
       schedule5 : e5.schedule ≡ e3.schedule
-      schedule5 = ap {A = Engine} (λ e. e.schedule) room5 ∙ ap {A = Engine} (λ e. e.schedule) noted.rest
+      schedule5 = ap {A = Engine} (λ e. e.schedule) noted.rest
 
       bank_is5 : IsBankAfter e5.bank ops2
       bank_is5 = subst (λ b. IsBankAfter b ops2) (sym bank5) bank2
@@ -227,7 +228,7 @@ module _ (laws : Laws) (design : Design) (sound : IsSound design) (statements p 
       own_idle (job.Faulted f line) = refl
       own_idle (job.Limit line) = refl
 
-      own_same : (s : Stamp) (end : JobEnd) → (held_after s end).events ≡ (wait_after w.stamp end).events
+      own_same : (s : Stamp) (end : JobEnd) → (awaited_after s end).events ≡ (wait_after w.stamp end).events
       own_same s (job.Waits on) = refl
       own_same s job.Ended = refl
       own_same s (job.Faulted f line) = refl
@@ -236,12 +237,12 @@ module _ (laws : Laws) (design : Design) (sound : IsSound design) (statements p 
       known_end : All (λ e. e < length design.events) (wait_after w.stamp end1).events
       known_end = own_known end1 (subst (FitsEnd design) end_is fitting.end)
 
-      within3 : p < length e3.schedule.held.items
+      within3 : p < length e3.schedule.awaited.items
       within3 = let a = but3.knows.count in let b = but3.count in let c = ap length (waits_after p w o.deed) in let d = length-set w.waits p (wait_after w.stamp o.deed.end) in let e = m.stands.waits_count in omega (arith, a, b, c, d, e, lt)
 
       pub may_close : MayClose design e5 p end1
       may_close = record {
-        within = subst (λ s. p < length s.held.items) (sym schedule5) within3;
+        within = subst (λ s. p < length s.awaited.items) (sym schedule5) within3;
         knows = subst KnowsWaiters (sym schedule5) but3.knows;
         asked = record {
           asked = record { ops = ops2; bank_is = bank_is5; known = subst (All (HasEventAt ops2)) (sym (own_same e5.stamp end1)) (have_events design sound ops2 of2 (length design.events) refl (wait_after w.stamp end1).events known_end) };
@@ -259,28 +260,28 @@ module _ (laws : Laws) (design : Design) (sound : IsSound design) (statements p 
 
       frames5 : frames_of e5 ≡ slice_set (frames_of old) p o.next
       frames5 =
-          ap {A = Engine} frames_of room5 ∙ ap {A = Engine} frames_of noted.rest ∙ ap {A = Engine} frames_of refreshed.rest ∙ ap {A = Engine} frames_of applied.rest
+          ap {A = Engine} frames_of noted.rest ∙ ap {A = Engine} frames_of refreshed.rest ∙ ap {A = Engine} frames_of applied.rest
           ∙ acts.frames ∙ ap (slice_set (frames_of old) p) (sym (ap (λ x. x.next) did_is))
 
-      variables5 : world.variables ≡ e5.parts.variables.items
+      variables5 : world.variables ≡ e5.variables.items
       variables5 =
           variables_after p w o.deed ∙ ap (λ x. x.deed.variables) did_is
-          ∙ sym (ap {A = Engine} (λ e. e.parts.variables.items) room5 ∙ ap {A = Engine} (λ e. e.parts.variables.items) noted.rest ∙ ap {A = Engine} (λ e. e.parts.variables.items) refreshed.rest ∙ ap {A = Engine} (λ e. e.parts.variables.items) applied.rest)
+          ∙ sym (ap {A = Engine} (λ e. e.variables.items) noted.rest ∙ ap {A = Engine} (λ e. e.variables.items) refreshed.rest ∙ ap {A = Engine} (λ e. e.variables.items) applied.rest)
 
-      output5 : e5.output.items ≡ old.output.items ++ ran.output.items
-      output5 = ap {A = Engine} (λ e. e.output.items) room5 ∙ noted.output_is ∙ ap (λ xs. xs ++ ran.output.items) (ap {A = Engine} (λ e. e.output.items) refreshed.rest ∙ ap {A = Engine} (λ e. e.output.items) applied.rest ∙ ap {A = Engine} (λ e. e.output.items) acts.rest)
+      output5 : e5.output.items ≡ old.output.items ++ emitted.output.items
+      output5 = noted.output_is ∙ ap (λ xs. xs ++ emitted.output.items) (ap {A = Engine} (λ e. e.output.items) refreshed.rest ∙ ap {A = Engine} (λ e. e.output.items) applied.rest ∙ ap {A = Engine} (λ e. e.output.items) acts.rest)
 
       activations5 : e5.activations ≡ old.activations + 1
-      activations5 = ap {A = Engine} (λ e. e.activations) room5 ∙ noted.activations_is ∙ ap (λ n. n + 1) (ap {A = Engine} (λ e. e.activations) refreshed.rest ∙ ap {A = Engine} (λ e. e.activations) applied.rest ∙ ap {A = Engine} (λ e. e.activations) acts.rest)
+      activations5 = noted.activations_is ∙ ap (λ n. n + 1) (ap {A = Engine} (λ e. e.activations) refreshed.rest ∙ ap {A = Engine} (λ e. e.activations) applied.rest ∙ ap {A = Engine} (λ e. e.activations) acts.rest)
 
       last5 : e5.last ≡ w.stamp
-      last5 = ap {A = Engine} (λ e. e.last) room5 ∙ ap {A = Engine} (λ e. e.last) noted.rest ∙ ap {A = Engine} (λ e. e.stamp) refreshed.rest ∙ stamp2
+      last5 = ap {A = Engine} (λ e. e.last) noted.rest ∙ ap {A = Engine} (λ e. e.stamp) refreshed.rest ∙ stamp2
 
       stopped5 : world.stopped ≡ e5.stopped
       stopped5 =
           stopped_after p w o.deed ∙ ap (λ fs. w.stopped || list_any is_stop fs) effects_is
-          ∙ ap (λ b. b || list_any is_stop ran.effects.items) (m.stopped ∙ sym (ap {A = Engine} (λ e. e.stopped) refreshed.rest ∙ ap {A = Engine} (λ e. e.stopped) applied.rest ∙ ap {A = Engine} (λ e. e.stopped) acts.rest))
-          ∙ sym (ap {A = Engine} (λ e. e.stopped) room5 ∙ noted.stopped_is)
+          ∙ ap (λ b. b || list_any is_stop emitted.effects.items) (m.stopped ∙ sym (ap {A = Engine} (λ e. e.stopped) refreshed.rest ∙ ap {A = Engine} (λ e. e.stopped) applied.rest ∙ ap {A = Engine} (λ e. e.stopped) acts.rest))
+          ∙ sym (noted.stopped_is)
 
       prints5 : Prints e5 world
       prints5 = record {
@@ -289,11 +290,11 @@ module _ (laws : Laws) (design : Design) (sound : IsSound design) (statements p 
         last = last_after p w o.deed ∙ sym last5;
       }
 
-      names5 : e5.names ≡ old.names
-      names5 = ap {A = Engine} (λ e. e.names) room5 ∙ ap {A = Engine} (λ e. e.names) noted.rest ∙ ap {A = Engine} (λ e. e.names) refreshed.rest ∙ ap {A = Engine} (λ e. e.names) applied.rest ∙ ap {A = Engine} (λ e. e.names) acts.rest
+      shown_channels5 : e5.shown_channels ≡ old.shown_channels
+      shown_channels5 = ap {A = Engine} (λ e. e.shown_channels) noted.rest ∙ ap {A = Engine} (λ e. e.shown_channels) refreshed.rest ∙ ap {A = Engine} (λ e. e.shown_channels) applied.rest ∙ ap {A = Engine} (λ e. e.shown_channels) acts.rest
 
-      notices5 : e5.notices ≡ old.notices
-      notices5 = ap {A = Engine} (λ e. e.notices) room5 ∙ ap {A = Engine} (λ e. e.notices) noted.rest ∙ ap {A = Engine} (λ e. e.notices) refreshed.rest ∙ notices2
+      channel_events5 : e5.channel_events ≡ old.channel_events
+      channel_events5 = ap {A = Engine} (λ e. e.channel_events) noted.rest ∙ ap {A = Engine} (λ e. e.channel_events) refreshed.rest ∙ channel_events2
 
       some_of : {A : Type 0} (a b : A) → Some a ≡ Some b → a ≡ b
       some_of a b e = cc
@@ -348,8 +349,8 @@ module _ (laws : Laws) (design : Design) (sound : IsSound design) (statements p 
         stopped = stopped5;
         whole = broken_is None whole;
         stands = stands5;
-        names = subst (λ x. AreNamesOf design (length design.processes) (lists_of x.items)) (sym names5) m.names;
-        notices = subst (λ x. AreNotices design (lists_of x.items)) (sym notices5) m.notices;
+        shown_channels = subst (λ x. AreShownChannels design (length design.processes) (lists_of x.items)) (sym shown_channels5) m.shown_channels;
+        channel_events = subst (λ x. AreChannelEvents design (lists_of x.items)) (sym channel_events5) m.channel_events;
         lists = ap {A = Schedule} (λ s. length s.waiters.items) schedule5 ∙ lists3;
       }
 
@@ -368,13 +369,13 @@ module _ (laws : Laws) (design : Design) (sound : IsSound design) (statements p 
         stopped = h.stopped;
         whole = h.whole;
         stands = h.stands;
-        names = h.names;
-        notices = h.notices;
+        shown_channels = h.shown_channels;
+        channel_events = h.channel_events;
         lists = n;
       }
 
-      held_same : held_after e5.stamp end1 ≡ held_of (wait_after w.stamp o.deed.end)
-      held_same = ap (λ s. held_after s end1) stamp5 ∙ ap (held_after w.stamp) (sym end_is)
+      awaited_same : awaited_after e5.stamp end1 ≡ awaited_of (wait_after w.stamp o.deed.end)
+      awaited_same = ap (λ s. awaited_after s end1) stamp5 ∙ ap (awaited_after w.stamp) (sym end_is)
 
       turns : (new : Engine) → Rests p end1 e5 new → Turns design new world
       turns new r = record {
@@ -383,10 +384,10 @@ module _ (laws : Laws) (design : Design) (sound : IsSound design) (statements p 
         planned =
             planned_after laws design sound p w ops m.of m.agrees m.timely o.deed fitting.may e2.bank bank2 below2 e3.schedule new.schedule but3 (own_known o.deed.end fitting.end)
             (let a = m.stands.waits_count in omega (arith, a, lt)) lists3
-            (subst (λ b. Waits p (held_of (wait_after w.stamp o.deed.end)) b w.stamp e3.schedule new.schedule) bank5
-            (subst (λ h. Waits p h e5.bank w.stamp e3.schedule new.schedule) held_same
-            (subst (λ s. Waits p (held_after e5.stamp end1) e5.bank s e3.schedule new.schedule) stamp5
-            (subst (λ s. Waits p (held_after e5.stamp end1) e5.bank e5.stamp s new.schedule) schedule5 r.waits))))
+            (subst (λ b. Waits p (awaited_of (wait_after w.stamp o.deed.end)) b w.stamp e3.schedule new.schedule) bank5
+            (subst (λ h. Waits p h e5.bank w.stamp e3.schedule new.schedule) awaited_same
+            (subst (λ s. Waits p (awaited_after e5.stamp end1) e5.bank s e3.schedule new.schedule) stamp5
+            (subst (λ s. Waits p (awaited_after e5.stamp end1) e5.bank e5.stamp s new.schedule) schedule5 r.waits))))
             (own_idle o.deed.end);
       }
 

@@ -13,7 +13,7 @@ use Rattle.std.proofs.lemmas.Map.Keys.{IsStrictlyIncreasing-dedup}
 use Rattle.std.specs.Ordering.{nat_cmp}
 use Rattle.std.specs.List.{flat_map, dedup}
 use Rattle.std.specs.List.Sorted.{IsPermutation, IsSorted}
-use Rattle.std.specs.Prelude.{nat_lt, slice_get, All, AllPairs, Contains}
+use Rattle.std.specs.Prelude.{◌⊎◌, nat_lt, slice_get, All, AllPairs, Contains}
 use Rattle.ooo_value.specs.declared.bound.BoundEvent.{BoundEvent}
 use Rattle.ooo_code.specs.declared.design.Design.{Design}
 use Rattle.ooo_code.specs.declared.design.Proc.{Proc}
@@ -23,7 +23,7 @@ use Rattle.ooo_code.specs.declared.node.NodeKind.{NodeKind}
 use Rattle.ooo_code.specs.declared.node.NodeKind.TheVariants as kind
 use Rattle.ooo_code.specs.Segments.{nodes_of}
 use Rattle.ooo_code.specs.Touches.{Touch, Reads, Writes, ReadsSignal, WritesSignal, HoldsReading, HoldsWriting, Notifies, Cancels, touched_by, notified_next, reads_of, numbers_where, is_of_signal, is_data_read, is_data_written}
-use Rattle.ooo_plain.specs.Engine.{AreNames, AreNamesOf}
+use Rattle.ooo_plain.specs.Engine.{AreShownTo, AreShownChannels}
 use Rattle.ooo_plain.specs.Schedule.{lists_of}
 use Rattle.ooo_plain.specs.Shown.{one_of, shown_by, shown_to, shown_to_nodes}
 
@@ -52,6 +52,27 @@ module _ (count : ℕ) (events : List BoundEvent) (c : ℕ) (k : NodeKind) (old 
       subst (λ x. new ≡ old ++ shown_to count (touched_by events x)) (sym is)
       (g ∙ ap (λ xs. xs ++ shown_to count (reads_of e)) h ∙ append_assoc old (one_of count c) (shown_to count (reads_of e))
       ∙ ap (λ xs. old ++ (one_of count c ++ xs)) (sym (shown_tail count (reads_of e) (numbers_where (is_data_written c) 0 events))))
+
+-- ---- nodes that are told alike
+
+as_kind : (count : ℕ) (events : List BoundEvent) (k j : NodeKind) (old new : List ℕ) → k ≡ j → new ≡ old ++ shown_to count (touched_by events j) → new ≡ old ++ shown_to count (touched_by events k)
+as_kind count events k j old new is h = subst (λ x. new ≡ old ++ shown_to count (touched_by events x)) (sym is) h
+
+-- a node that shows what its expression reads
+pub told_reads : (count : ℕ) (events : List BoundEvent) (k : NodeKind) (e : NodeExpr) (old new : List ℕ) → ((x : ℕ) × (k ≡ kind.Set x e)) ⊎ (((x : ℕ) × (k ≡ kind.Test e x)) ⊎ ((k ≡ kind.PrintValue e) ⊎ ((x : ℕ) × (k ≡ kind.Write x e))))
+    → new ≡ old ++ shown_to count (reads_of e) → new ≡ old ++ shown_to count (touched_by events k)
+told_reads count events k e old new is h =
+    ⊎_elim (λ set. as_kind count events k (kind.Set set.0 e) old new set.1 h)
+    (⊎_elim (λ test. as_kind count events k (kind.Test e test.0) old new test.1 h)
+    (⊎_elim (λ print. as_kind count events k (kind.PrintValue e) old new print h) (λ write. told_write count events write.0 k old new e write.1 h))) is
+
+-- a node that shows a fifo of which an end is held
+pub told_end : (count : ℕ) (events : List BoundEvent) (k : NodeKind) (c : ℕ) (old new : List ℕ) → ((x : ℕ) × (k ≡ kind.TestAvailable c x)) ⊎ (((x : ℕ) × (k ≡ kind.TestFree c x)) ⊎ ((x : ℕ) × (k ≡ kind.Take c x)))
+    → new ≡ old ++ one_of count c → new ≡ old ++ shown_to count (touched_by events k)
+told_end count events k c old new is h =
+    let alone : new ≡ old ++ (one_of count c ++ []) = h ∙ ap (λ xs. old ++ xs) (sym (append-nil (one_of count c))) in
+    ⊎_elim (λ test. as_kind count events k (kind.TestAvailable c test.0) old new test.1 alone)
+    (⊎_elim (λ test. as_kind count events k (kind.TestFree c test.0) old new test.1 alone) (λ take. told_take count events c k old new take.0 take.1 h)) is
 
 -- ---- node by node
 
@@ -108,8 +129,8 @@ told count events nodes node t c in_nodes touches shows lt =
 
 -- ---- sorted, and each once
 
-pub names_sorted : (design : Design) (process : Proc) (all sorted names : List ℕ) → all ≡ shown_to_nodes (length design.channels) design.events (nodes_of design process) → IsPermutation all sorted → IsSorted nat_cmp sorted → names ≡ dedup eqb sorted → AreNames design process names
-names_sorted design process all sorted names told_is moved in_order is = record {
+pub shown_sorted : (design : Design) (process : Proc) (all sorted names : List ℕ) → all ≡ shown_to_nodes (length design.channels) design.events (nodes_of design process) → IsPermutation all sorted → IsSorted nat_cmp sorted → names ≡ dedup eqb sorted → AreShownTo design process names
+shown_sorted design process all sorted names told_is moved in_order is = record {
   ascending = subst (AllPairs (λ a b. a < b)) (sym is) (AllPairs-from_increasing (dedup eqb sorted) (IsStrictlyIncreasing-dedup sorted in_order));
   within = λ k d below. All-contains (λ x. x < length design.channels) (shown_to_nodes (length design.channels) design.events (nodes_of design process)) (get_or names k d) (nodes_within (length design.channels) design.events (nodes_of design process)) (from (get_or names k d) (Contains-get_or names k d below));
   exact = λ c. (from c, to c);
@@ -122,23 +143,23 @@ names_sorted design process all sorted names told_is moved in_order is = record 
 
 -- ---- process by process
 
-pub names_none : (design : Design) → AreNamesOf design 0 []
-names_none design = record { count = refl; each = λ p process lt is. absurd (omega (arith, lt)) }
+pub shown_none : (design : Design) → AreShownChannels design 0 []
+shown_none design = record { count = refl; each = λ p process lt is. absurd (omega (arith, lt)) }
 
-pub names_more : (design : Design) (n : ℕ) (process : Proc) (names : List (List ℕ)) (one : List ℕ) → slice_get design.processes n ≡ Some process → AreNamesOf design n names → AreNames design process one → AreNamesOf design (n + 1) (names ++ one ∷ [])
-names_more design n process names one at h more = record {
+pub shown_more : (design : Design) (n : ℕ) (process : Proc) (names : List (List ℕ)) (one : List ℕ) → slice_get design.processes n ≡ Some process → AreShownChannels design n names → AreShownTo design process one → AreShownChannels design (n + 1) (names ++ one ∷ [])
+shown_more design n process names one at h more = record {
   count = length-append names (one ∷ []) ∙ (let c = h.count in let e : length names + 1 ≡ n + 1 = omega (arith, c) in e);
   each = λ p other lt is. ⊎_elim
-      (λ below. subst (AreNames design other) (sym (get_or_append_left names (one ∷ []) [] p (let c = h.count in omega (arith, below, c)))) (h.each p other below is))
+      (λ below. subst (AreShownTo design other) (sym (get_or_append_left names (one ∷ []) [] p (let c = h.count in omega (arith, below, c)))) (h.each p other below is))
       (λ le.
       let same : p ≡ n = omega (arith, lt, le) in
       let both : other ≡ process = (let e : Some other ≡ Some process = sym is ∙ ap (slice_get design.processes) same ∙ at in cc) in
-      subst (AreNames design other) (sym (get_or_push names one [] p (h.count ∙ sym same))) (subst (λ x. AreNames design x one) (sym both) more))
+      subst (AreShownTo design other) (sym (get_or_push names one [] p (h.count ∙ sym same))) (subst (λ x. AreShownTo design x one) (sym both) more))
       (cases_lt p n);
 }
 
-pub names_push : (design : Design) (p : ℕ) (process : Proc) (processes : List Proc) → processes ≡ design.processes → p < length processes → process ≡ get_or processes p process → (names new : List (Vec ℕ)) (one : Vec ℕ) → new ≡ names ++ one ∷ [] → AreNamesOf design p (lists_of names) → AreNames design process one.items → AreNamesOf design (p + 1) (lists_of new)
-names_push design p process processes same lt is names new one e h more =
-    subst (AreNamesOf design (p + 1)) (sym (ap lists_of e ∙ map-append (λ v. v.items) names (one ∷ [])))
-    (names_more design p process (lists_of names) one.items
+pub shown_push : (design : Design) (p : ℕ) (process : Proc) (processes : List Proc) → processes ≡ design.processes → p < length processes → process ≡ get_or processes p process → (names new : List (Vec ℕ)) (one : Vec ℕ) → new ≡ names ++ one ∷ [] → AreShownChannels design p (lists_of names) → AreShownTo design process one.items → AreShownChannels design (p + 1) (lists_of new)
+shown_push design p process processes same lt is names new one e h more =
+    subst (AreShownChannels design (p + 1)) (sym (ap lists_of e ∙ map-append (λ v. v.items) names (one ∷ [])))
+    (shown_more design p process (lists_of names) one.items
     (slice_get-get_or design.processes p process (let n = ap length same in omega (arith, lt, n)) ∙ ap Some (sym (is ∙ ap (λ xs. get_or xs p process) same))) h more)

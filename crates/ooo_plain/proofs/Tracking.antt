@@ -12,7 +12,7 @@ use Rattle.ooo_meaning.specs.World.{World, Wait, slot_at, wait_at, never, awake,
 use Rattle.ooo_channels.specs.Agreement.{IsTimely, IsAhead}
 use Rattle.ooo_plain.specs.declared.schedule.Schedule.{Schedule}
 use Rattle.ooo_plain.specs.Agenda.{due_in, AllFrom}
-use Rattle.ooo_plain.specs.Tracking.{will_run, held_of, IsPlanned}
+use Rattle.ooo_plain.specs.Tracking.{will_run, awaited_of, IsPlanned}
 use Rattle.ooo_plain.proofs.Order.{IsBefore-irrefl, IsBefore-trans, some_same}
 use Rattle.ooo_plain.proofs.Slots.{Later, ahead_later, ahead_near, delta_ahead, IsNear, Holds}
 use Rattle.ooo_plain.proofs.Least.{From, from_sooner, from_least, least_from}
@@ -158,16 +158,16 @@ module _ (s : Schedule) (w : World) (timely : IsTimely w) (h : IsPlanned s w) wh
       from_each : (p : ℕ) → From t (activity (update w).slots (wait_at w.waits p))
       from_each p = subst (λ ws. From t (activity (update w).slots (wait_at ws p))) (update_waits w) (least_from (activity (update w).slots) t (update w).waits never tt from p)
 
-      held_still : (x : Wait) (b : Bool) → (if b then awake else x).runnable ≡ false → (if b then awake else x) ≡ x
-      held_still x true f = absurd (let no : true ≡ false = f in cc)
-      held_still x false f = refl
+      awaited_still : (x : Wait) (b : Bool) → (if b then awake else x).runnable ≡ false → (if b then awake else x) ≡ x
+      awaited_still x true f = absurd (let no : true ≡ false = f in cc)
+      awaited_still x false f = refl
 
       -- who doesn't wake waits for the same
       pub wait_kept : (p : ℕ) → (wait_at next.waits p).runnable ≡ false → wait_at next.waits p ≡ wait_at w.waits p
       wait_kept p f =
           let x : Wait = wait_at w.waits p in
           let is = woken_at p ∙ woken_is t (update w).slots x (from_each p) in
-          is ∙ held_still x (is_at t (activity (update w).slots x)) (ap (λ y. y.runnable) (sym is) ∙ f)
+          is ∙ awaited_still x (is_at t (activity (update w).slots x)) (ap (λ y. y.runnable) (sym is) ∙ f)
 
       dues_next : s.agenda ≡ map (will_run next.stamp (update next).slots) next.waits
       dues_next =
@@ -178,7 +178,7 @@ module _ (s : Schedule) (w : World) (timely : IsTimely w) (h : IsPlanned s w) wh
       pub moves_on : IsPlanned s next
       moves_on = record {
         dues = dues_next;
-        held = λ p f. h.held p (idle p) ∙ ap held_of (sym (wait_kept p f));
+        awaited = λ p f. h.awaited p (idle p) ∙ ap awaited_of (sym (wait_kept p f));
         known = h.known;
         knows = h.knows;
       }

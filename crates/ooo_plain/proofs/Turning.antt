@@ -27,12 +27,12 @@ use Rattle.ooo_channels.specs.Conditions.{HasEventAt, FitsChannels, MayApplyAll}
 use Rattle.ooo_channels.specs.Agreement.{Agrees, IsTimely}
 use Rattle.ooo_channels.specs.Bank.{BankState, IsBankAfter}
 use Rattle.ooo_channels.specs.Apart.{LeavesOthers}
-use Rattle.ooo_plain.specs.declared.schedule.Held.{Held}
+use Rattle.ooo_plain.specs.declared.schedule.Awaited.{Awaited}
 use Rattle.ooo_plain.specs.declared.schedule.Schedule.{Schedule}
 use Rattle.ooo_plain.specs.Agenda.{due_in}
-use Rattle.ooo_plain.specs.Schedule.{held_at, nothing_held, waits_on, AskedAnew, Touched, Waits, IsDueBy}
+use Rattle.ooo_plain.specs.Schedule.{awaited_at, nothing_awaited, waits_on, AskedAnew, Touched, Waits, IsDueBy}
 use Rattle.ooo_plain.specs.Laws.{Laws}
-use Rattle.ooo_plain.specs.Tracking.{will_run, held_of, affects, IsPlanned, IsPlannedBut}
+use Rattle.ooo_plain.specs.Tracking.{will_run, awaited_of, affects, IsPlanned, IsPlannedBut}
 use Rattle.ooo_plain.specs.Engine.{AreOf}
 use Rattle.ooo_plain.proofs.Asking.{first_same, touched_knows}
 use Rattle.ooo_plain.proofs.Effects.{channels_after, events_after}
@@ -107,7 +107,7 @@ module _ (laws : Laws) (design : Design) (sound : IsSound design) (p : ℕ) (w :
   first_later e lt = subst (λ s. IsFirstAfter (FiresAt ops' e) s (due_at (update w').slots e)) (stamp_after p w d) (laws.fires ops' w' e agrees' (has_event design sound ops' of' e lt))
 
   -- what is asked by the operations is what the phases will do
-  pub asked_is : (h : Held) (x : Wait) → h ≡ held_of x → All (λ e. e < length design.events) x.events → (due : Option Stamp) → IsDueBy ops' w.stamp h due → due ≡ activity (update w').slots x
+  pub asked_is : (h : Awaited) (x : Wait) → h ≡ awaited_of x → All (λ e. e < length design.events) x.events → (due : Option Stamp) → IsDueBy ops' w.stamp h due → due ≡ activity (update w').slots x
   asked_is h x e known due is = subst (λ y. IsDueBy ops' w.stamp y due) e is (due_at (update w').slots) (λ k n lt. first_later (get_or x.events k n) (known k n lt))
 
   -- an event that isn't affected fires when it did
@@ -136,30 +136,30 @@ module _ (laws : Laws) (design : Design) (sound : IsSound design) (p : ℕ) (w :
       (es : List ℕ) (touched : Touched es bank w.stamp s t)
       (all : (e : ℕ) (k : BoundEvent) → slice_get design.events e ≡ Some k → list_any (affects e k) d.effects ≡ true → Contains es e)
       (known : (q : ℕ) → All (λ e. e < length design.events) (wait_at w.waits q).events) where
-    not_affected : (q : ℕ) (x : Wait) → held_at s.held.items q ≡ held_of x → ((e : ℕ) → Contains es e → waits_on e (held_at s.held.items q) ≡ false) → (e : ℕ) → Contains x.events e → (k : BoundEvent) → slice_get design.events e ≡ Some k → list_any (affects e k) d.effects ≡ false
-    not_affected q x held spared e c k is = go (list_any (affects e k) d.effects) refl
+    not_affected : (q : ℕ) (x : Wait) → awaited_at s.awaited.items q ≡ awaited_of x → ((e : ℕ) → Contains es e → waits_on e (awaited_at s.awaited.items q) ≡ false) → (e : ℕ) → Contains x.events e → (k : BoundEvent) → slice_get design.events e ≡ Some k → list_any (affects e k) d.effects ≡ false
+    not_affected q x awaited spared e c k is = go (list_any (affects e k) d.effects) refl
       where
-        waits : waits_on e (held_of x) ≡ true
+        waits : waits_on e (awaited_of x) ≡ true
         waits = list_any_at (λ i. i == e) x.events c.0 e c.1 (eq-eqb _ e c.2)
 
         go : (b : Bool) → list_any (affects e k) d.effects ≡ b → b ≡ false
         go false f = refl
-        go true f = absurd (let no : true ≡ false = sym waits ∙ ap (waits_on e) (sym held) ∙ spared e (all e k is f) in cc)
+        go true f = absurd (let no : true ≡ false = sym waits ∙ ap (waits_on e) (sym awaited) ∙ spared e (all e k is f) in cc)
 
     runs_still : (q : ℕ) → q ≢ p → (x : Wait) → x ≡ wait_at w.waits q → x.runnable ≡ true → due_in s.agenda q ≡ Some w.stamp
     runs_still q ne x is r = h.dues q ne ∙ ap (will_run w.stamp (update w).slots) (sym is) ∙ rw r refl
 
     new_due : (q : ℕ) → q ≢ p → (b : Bool) → (wait_at w.waits q).runnable ≡ b
-        → AskedAnew bank w.stamp (held_at s.held.items q) (due_in s.agenda q) (due_in t.agenda q) ⊎ ((due_in t.agenda q ≡ due_in s.agenda q) × ((e : ℕ) → Contains es e → waits_on e (held_at s.held.items q) ≡ false))
+        → AskedAnew bank w.stamp (awaited_at s.awaited.items q) (due_in s.agenda q) (due_in t.agenda q) ⊎ ((due_in t.agenda q ≡ due_in s.agenda q) × ((e : ℕ) → Contains es e → waits_on e (awaited_at s.awaited.items q) ≡ false))
         → due_in t.agenda q ≡ will_run w.stamp (update w').slots (wait_at w.waits q)
     new_due q ne true r (inl (inl a)) = absurd (a.0 (runs_still q ne (wait_at w.waits q) refl r))
     new_due q ne true r (inl (inr a)) = a.0 ∙ a.1 ∙ rw r refl
     new_due q ne true r (inr a) = a.0 ∙ runs_still q ne (wait_at w.waits q) refl r ∙ rw r refl
-    new_due q ne false r (inl (inl a)) = asked_is (held_at s.held.items q) (wait_at w.waits q) (h.held q ne r) (known q) (due_in t.agenda q) (a.1 ops' bank_is below) ∙ rw r refl
+    new_due q ne false r (inl (inl a)) = asked_is (awaited_at s.awaited.items q) (wait_at w.waits q) (h.awaited q ne r) (known q) (due_in t.agenda q) (a.1 ops' bank_is below) ∙ rw r refl
     new_due q ne false r (inl (inr a)) = absurd (not_now w timely q r (sym (h.dues q ne) ∙ a.1))
     new_due q ne false r (inr a) =
         let x : Wait = wait_at w.waits q in
-        let same = all_spared x.events (known q) (not_affected q x (h.held q ne r) a.1) in
+        let same = all_spared x.events (known q) (not_affected q x (h.awaited q ne r) a.1) in
         a.0 ∙ h.dues q ne ∙ rw r (ap (λ xs. sooner (due_of x.timeout) (least xs)) (sym same))
 
     past : (q : ℕ) → length s.agenda ≤ q → due_in t.agenda q ≡ will_run w.stamp (update w').slots (wait_at w.waits q)
@@ -172,9 +172,9 @@ module _ (laws : Laws) (design : Design) (sound : IsSound design) (p : ℕ) (w :
       count = touched.count ∙ h.count ∙ sym count';
       dues = λ q ne. ⊎_elim (λ lt. new_due q ne (wait_at w.waits q).runnable refl (touched.each q lt)) (λ le. past q le) (cases_lt q (length s.agenda))
           ∙ ap (λ x. will_run w.stamp (update w').slots x) (sym (wait_other q ne)) ∙ ap (λ st. will_run st (update w').slots (wait_at w'.waits q)) (sym (stamp_after p w d));
-      held = λ q ne r.
-          ap {A = Schedule} (λ x. held_at x.held.items q) touched.rest ∙ h.held q ne (ap (λ x. x.runnable) (sym (wait_other q ne)) ∙ r) ∙ ap held_of (sym (wait_other q ne));
-      known = λ q. subst (λ x. All (λ e. e < length x.waiters.items) (held_at x.held.items q).events) (sym touched.rest) (h.known q);
+      awaited = λ q ne r.
+          ap {A = Schedule} (λ x. awaited_at x.awaited.items q) touched.rest ∙ h.awaited q ne (ap (λ x. x.runnable) (sym (wait_other q ne)) ∙ r) ∙ ap awaited_of (sym (wait_other q ne));
+      known = λ q. subst (λ x. All (λ e. e < length x.waiters.items) (awaited_at x.awaited.items q).events) (sym touched.rest) (h.known q);
       knows = touched_knows bank w.stamp es s t touched h.knows;
     }
 
@@ -182,7 +182,7 @@ module _ (laws : Laws) (design : Design) (sound : IsSound design) (p : ℕ) (w :
 
   module _ (bank : BankState) (bank_is : IsBankAfter bank ops') (below : ¬ IsBefore w.stamp ops'.below)
       (t u : Schedule) (h : IsPlannedBut p t w') (own : All (λ e. e < length design.events) (wait_after w.stamp d.end).events) (lt : p < length w.waits) (lists : length t.waiters.items ≡ length design.events)
-      (wait : Waits p (held_of (wait_after w.stamp d.end)) bank w.stamp t u) (idle : (wait_after w.stamp d.end).runnable ≡ false) where
+      (wait : Waits p (awaited_of (wait_after w.stamp d.end)) bank w.stamp t u) (idle : (wait_after w.stamp d.end).runnable ≡ false) where
     wait_p : wait_at w'.waits p ≡ wait_after w.stamp d.end
     wait_p = ap (λ xs. wait_at xs p) (waits_after p w d) ∙ get_or-set_same w.waits p (wait_after w.stamp d.end) never lt
 
@@ -192,18 +192,18 @@ module _ (laws : Laws) (design : Design) (sound : IsSound design) (p : ℕ) (w :
     due_p : due_in u.agenda p ≡ will_run w'.stamp (update w').slots (wait_at w'.waits p)
     due_p =
         ap (λ a. due_in a p) wait.agenda ∙ get_or-set_same t.agenda p wait.due None within
-        ∙ asked_is (held_of (wait_after w.stamp d.end)) (wait_after w.stamp d.end) refl own wait.due (wait.asked ops' bank_is below)
+        ∙ asked_is (awaited_of (wait_after w.stamp d.end)) (wait_after w.stamp d.end) refl own wait.due (wait.asked ops' bank_is below)
         ∙ (let runs : activity (update w').slots (wait_after w.stamp d.end) ≡ will_run w'.stamp (update w').slots (wait_after w.stamp d.end) = rw idle refl in runs)
         ∙ ap (will_run w'.stamp (update w').slots) (sym wait_p)
 
     due_q : (q : ℕ) → q ≢ p → due_in u.agenda q ≡ will_run w'.stamp (update w').slots (wait_at w'.waits q)
     due_q q ne = ap (λ a. due_in a q) wait.agenda ∙ get_or-set_other t.agenda p q wait.due None ne ∙ h.dues q ne
 
-    held_p : (q : ℕ) → q ≡ p → held_at u.held.items q ≡ held_of (wait_after w.stamp d.end)
-    held_p q e = ap (λ a. held_at a q) wait.held ∙ ap (held_at (set t.held.items p (held_of (wait_after w.stamp d.end)))) e ∙ get_or-set_same t.held.items p (held_of (wait_after w.stamp d.end)) nothing_held (let a = within in let b = h.knows.count in omega (arith, a, b))
+    awaited_p : (q : ℕ) → q ≡ p → awaited_at u.awaited.items q ≡ awaited_of (wait_after w.stamp d.end)
+    awaited_p q e = ap (λ a. awaited_at a q) wait.awaited ∙ ap (awaited_at (set t.awaited.items p (awaited_of (wait_after w.stamp d.end)))) e ∙ get_or-set_same t.awaited.items p (awaited_of (wait_after w.stamp d.end)) nothing_awaited (let a = within in let b = h.knows.count in omega (arith, a, b))
 
-    held_q : (q : ℕ) → q ≢ p → held_at u.held.items q ≡ held_at t.held.items q
-    held_q q ne = ap (λ a. held_at a q) wait.held ∙ get_or-set_other t.held.items p q (held_of (wait_after w.stamp d.end)) nothing_held ne
+    awaited_q : (q : ℕ) → q ≢ p → awaited_at u.awaited.items q ≡ awaited_at t.awaited.items q
+    awaited_q q ne = ap (λ a. awaited_at a q) wait.awaited ∙ get_or-set_other t.awaited.items p q (awaited_of (wait_after w.stamp d.end)) nothing_awaited ne
 
     pub planned_after : IsPlanned u w'
     planned_after = record {
@@ -211,12 +211,12 @@ module _ (laws : Laws) (design : Design) (sound : IsSound design) (p : ℕ) (w :
           (ap length wait.agenda ∙ length-set t.agenda p wait.due ∙ h.count ∙ sym (length-map w'.waits (will_run w'.stamp (update w').slots)))
           (λ q lt. ⊎_elim (λ e. subst (λ i. due_in u.agenda i ≡ will_run w'.stamp (update w').slots (wait_at w'.waits i)) (sym e) due_p) (λ ne. due_q q ne) (cases_eq q p)
           ∙ sym (get_or-map (will_run w'.stamp (update w').slots) w'.waits q never));
-      held = λ q r. ⊎_elim
-          (λ e. held_p q e ∙ ap held_of (sym (ap (wait_at w'.waits) e ∙ wait_p)))
-          (λ ne. held_q q ne ∙ h.held q ne r) (cases_eq q p);
-      known = λ q. subst (λ n. All (λ e. e < n) (held_at u.held.items q).events) (sym wait.count)
+      awaited = λ q r. ⊎_elim
+          (λ e. awaited_p q e ∙ ap awaited_of (sym (ap (wait_at w'.waits) e ∙ wait_p)))
+          (λ ne. awaited_q q ne ∙ h.awaited q ne r) (cases_eq q p);
+      known = λ q. subst (λ n. All (λ e. e < n) (awaited_at u.awaited.items q).events) (sym wait.count)
           (⊎_elim
-          (λ e. subst (λ y. All (λ i. i < length t.waiters.items) y.events) (sym (held_p q e)) (subst (λ n. All (λ i. i < n) (wait_after w.stamp d.end).events) (sym lists) own))
-          (λ ne. subst (λ y. All (λ i. i < length t.waiters.items) y.events) (sym (held_q q ne)) (h.known q)) (cases_eq q p));
+          (λ e. subst (λ y. All (λ i. i < length t.waiters.items) y.events) (sym (awaited_p q e)) (subst (λ n. All (λ i. i < n) (wait_after w.stamp d.end).events) (sym lists) own))
+          (λ ne. subst (λ y. All (λ i. i < length t.waiters.items) y.events) (sym (awaited_q q ne)) (h.known q)) (cases_eq q p));
       knows = wait.knows;
     }

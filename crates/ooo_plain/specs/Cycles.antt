@@ -15,8 +15,8 @@ use Rattle.ooo_channels.specs.Bank.{IsBankAfter}
 use Rattle.ooo_plain.specs.declared.engine.Engine.{Engine}
 use Rattle.ooo_plain.specs.declared.cycles.Pass.{Pass}
 use Rattle.ooo_plain.specs.declared.cycles.Pass.TheVariants as pass
-use Rattle.ooo_plain.specs.declared.cycles.Then.{Then}
-use Rattle.ooo_plain.specs.declared.cycles.Then.TheVariants as then
+use Rattle.ooo_plain.specs.declared.cycles.CycleEnd.{CycleEnd}
+use Rattle.ooo_plain.specs.declared.cycles.CycleEnd.TheVariants as cycle_end
 use Rattle.ooo_plain.specs.Agenda.{due_in}
 use Rattle.ooo_plain.specs.Tracking.{IsPlanned}
 use Rattle.ooo_plain.specs.Engine.{AreOf, Mirrors, Prints, Turns, Breaks, Turned, frames_of}
@@ -113,9 +113,9 @@ pub record Goes (design : Design) (limits : Limits) (old new : Engine) (w : Worl
   pub turns : Turns design new world
   pub run : (r : Result) → GivesFrom design limits new world r → GivesFrom design limits old w r
 
-abbrev pub Follows : Design → Limits → Then → (old new : Engine) → World → Type 0
-Follows design limits (then.Over end at) old new w = Overs design limits end at old new w
-Follows design limits then.Goes old new w = Goes design limits old new w
+abbrev pub Follows : Design → Limits → CycleEnd → (old new : Engine) → World → Type 0
+Follows design limits (cycle_end.Over end at) old new w = Overs design limits end at old new w
+Follows design limits cycle_end.Goes old new w = Goes design limits old new w
 
 -- how many cycles may follow, by the stamp
 abbrev pub cycles_after : Limits → Stamp → ℕ
@@ -127,12 +127,12 @@ pub record IsWithin (limits : Limits) (s : Stamp) : Type 0 where
   pub delta : s.delta < limits.deltas
 
 -- where another cycle follows its stamp is within the limits, and fewer may follow
-abbrev pub Nears : Limits → Then → (old new : Stamp) → Type 0
-Nears limits (then.Over end at) old new = Unit {0}
-Nears limits then.Goes old new = IsWithin limits new × (cycles_after limits new < cycles_after limits old)
+abbrev pub Nears : Limits → CycleEnd → (old new : Stamp) → Type 0
+Nears limits (cycle_end.Over end at) old new = Unit {0}
+Nears limits cycle_end.Goes old new = IsWithin limits new × (cycles_after limits new < cycles_after limits old)
 
 -- one cycle
-pub record Cycles (design : Design) (limits : Limits) (t : Then) (old new : Engine) : Type 0 where
+pub record Cycles (design : Design) (limits : Limits) (t : CycleEnd) (old new : Engine) : Type 0 where
   pub activations : new.activations ≤ old.activations + length design.processes
   pub nears : Nears limits t old.stamp new.stamp
   pub each : (w : World) (ops : Operations) → Mirrors design old ops w → IsPlanned old.schedule w → Follows design limits t old new w

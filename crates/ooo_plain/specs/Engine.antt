@@ -16,8 +16,9 @@ use Rattle.ooo_code.specs.Nodes.{by_nodes}
 use Rattle.ooo_code.specs.Segments.{nodes_of}
 use Rattle.ooo_code.specs.Outcomes.{Outcome}
 use Rattle.ooo_history.specs.declared.run.End.{End}
-use Rattle.ooo_interp.specs.declared.processes.Ran.{Ran}
-use Rattle.ooo_interp.specs.Jobs.{job_end}
+use Rattle.ooo_interp.specs.declared.doing.Emitted.{Emitted}
+use Rattle.ooo_interp.specs.declared.doing.Halt.{Halt}
+use Rattle.ooo_interp.specs.Acting.{job_end}
 use Rattle.ooo_meaning.specs.World.{World, Made, wait_at, view_of, last_stamp, after_deed, wait_after, broken_by, place_of}
 use Rattle.ooo_channels.specs.Operations.{Operations, after_effects}
 use Rattle.ooo_channels.specs.Calls.{channel_of}
@@ -26,12 +27,12 @@ use Rattle.ooo_channels.specs.Bank.{IsBankAfter}
 use Rattle.ooo_channels.specs.Agreement.{Agrees, IsTimely}
 use Rattle.ooo_plain.specs.declared.engine.Process.{Process}
 use Rattle.ooo_plain.specs.declared.engine.Engine.{Engine}
-use Rattle.ooo_plain.specs.declared.schedule.Held.{Held}
+use Rattle.ooo_plain.specs.declared.schedule.Awaited.{Awaited}
 use Rattle.ooo_plain.specs.Schedule.{KnowsWaiters, MayAsk, MayAskAll, Touched, Waits, lists_of}
 use Rattle.ooo_plain.specs.Fitting.{FitsEntry, FitsEnd}
 use Rattle.ooo_plain.specs.Seeing.{HasEnds}
 use Rattle.ooo_plain.specs.Shown.{shown_to_nodes}
-use Rattle.ooo_plain.specs.Tracking.{IsPlanned, IsPlannedBut, affects, held_of}
+use Rattle.ooo_plain.specs.Tracking.{IsPlanned, IsPlannedBut, affects, awaited_of}
 
 -- ---- designs
 
@@ -58,21 +59,21 @@ abbrev pub outcome_at : Design → (statements p : ℕ) → List Frame → World
 outcome_at design statements p frames w = by_nodes design statements p (slice_index_or frames p no_frame) (view_of p w)
 
 -- the channels of these numbers are just those that the nodes of a process are shown something of, in ascending order
-pub record AreNames (design : Design) (process : Proc) (names : List ℕ) : Type 0 where
-  pub ascending : AllPairs (λ a b. a < b) names
-  pub within : All (λ c. c < length design.channels) names
-  pub exact : (c : ℕ) → Contains names c ↔ Contains (shown_to_nodes (length design.channels) design.events (nodes_of design process)) c
+pub record AreShownTo (design : Design) (process : Proc) (shown : List ℕ) : Type 0 where
+  pub ascending : AllPairs (λ a b. a < b) shown
+  pub within : All (λ c. c < length design.channels) shown
+  pub exact : (c : ℕ) → Contains shown c ↔ Contains (shown_to_nodes (length design.channels) design.events (nodes_of design process)) c
 
 -- so they are of each of the first n processes
-pub record AreNamesOf (design : Design) (n : ℕ) (names : List (List ℕ)) : Type 0 where
-  pub count : length names ≡ n
-  pub each : (p : ℕ) (process : Proc) → p < n → slice_get design.processes p ≡ Some process → AreNames design process (slice_index_or names p [])
+pub record AreShownChannels (design : Design) (n : ℕ) (lists : List (List ℕ)) : Type 0 where
+  pub count : length lists ≡ n
+  pub each : (p : ℕ) (process : Proc) → p < n → slice_get design.processes p ≡ Some process → AreShownTo design process (slice_index_or lists p [])
 
 -- the lists of each channel's events have them
-pub record AreNotices (design : Design) (notices : List (List ℕ)) : Type 0 where
-  pub count : length notices ≡ length design.channels
-  pub within : (c : ℕ) → All (λ e. e < length design.events) (slice_index_or notices c [])
-  pub all : (e : ℕ) (k : BoundEvent) → slice_get design.events e ≡ Some k → k ≢ event.Own → Contains (slice_index_or notices (channel_of k) []) e
+pub record AreChannelEvents (design : Design) (channel_events : List (List ℕ)) : Type 0 where
+  pub count : length channel_events ≡ length design.channels
+  pub within : (c : ℕ) → All (λ e. e < length design.events) (slice_index_or channel_events c [])
+  pub all : (e : ℕ) (k : BoundEvent) → slice_get design.events e ≡ Some k → k ≢ event.Own → Contains (slice_index_or channel_events (channel_of k) []) e
 
 -- ---- what the engine mirrors
 
@@ -108,13 +109,13 @@ pub record Mirrors (design : Design) (e : Engine) (ops : Operations) (w : World)
   pub bank : IsBankAfter e.bank ops
   pub stamp : w.stamp ≡ e.stamp
   pub countable : IsCountableStamp e.stamp
-  pub variables : w.variables ≡ e.parts.variables.items
+  pub variables : w.variables ≡ e.variables.items
   pub prints : Prints e w
   pub stopped : w.stopped ≡ e.stopped
   pub whole : w.broken ≡ None
   pub stands : Stands design w (frames_of e)
-  pub names : AreNamesOf design (length design.processes) (lists_of e.names.items)
-  pub notices : AreNotices design (lists_of e.notices.items)
+  pub shown_channels : AreShownChannels design (length design.processes) (lists_of e.shown_channels.items)
+  pub channel_events : AreChannelEvents design (lists_of e.channel_events.items)
   pub lists : length e.schedule.waiters.items ≡ length design.events
 
 -- the engine mirrors some world
@@ -126,12 +127,12 @@ pub record MayAct (design : Design) (e : Engine) (p : ℕ) : Type 0 where
 
 -- ---- steps of a turn
 
--- process p ran from where it was
-pub record Acts (design : Design) (statements p : ℕ) (old new : Engine) (ran : Ran) : Type 0 where
-  pub rest : new ≡ record old { processes = new.processes; parts = new.parts; room = new.room }
+-- process p ran from where it was, emitted this, and its activation ended so
+pub record Acts (design : Design) (statements p : ℕ) (old new : Engine) (emitted : Emitted) (halt : Halt) : Type 0 where
+  pub rest : new ≡ record old { processes = new.processes; variables = new.variables; ports = new.ports }
   pub frame : Frame
   pub frames : frames_of new ≡ slice_set (frames_of old) p frame
-  pub does : (w : World) (ops : Operations) → Mirrors design old ops w → outcome_at design statements p (frames_of old) w ≡ record { deed = record { output = ran.output.items; variables = new.parts.variables.items; effects = ran.effects.items; end = job_end ran.end }; next = frame }
+  pub does : (w : World) (ops : Operations) → Mirrors design old ops w → outcome_at design statements p (frames_of old) w ≡ record { deed = record { output = emitted.output.items; variables = new.variables.items; effects = emitted.effects.items; end = job_end halt }; next = frame }
 
 -- the bank's operations, after which these effects may be applied
 pub record MayApply (e : Engine) (effects : List Effect) : Type 0 where
@@ -148,9 +149,9 @@ pub record Applied (effects : List Effect) (old new : Engine) : Type 0 where
 
 -- the effect names a channel or an event that has its lists
 abbrev pub HasLists : Engine → Effect → Type 0
-HasLists e (effect.Request c v) = c < length e.notices.items
-HasLists e (effect.Put c v) = c < length e.notices.items
-HasLists e (effect.Take c) = c < length e.notices.items
+HasLists e (effect.Request c v) = c < length e.channel_events.items
+HasLists e (effect.Put c v) = c < length e.channel_events.items
+HasLists e (effect.Take c) = c < length e.channel_events.items
 HasLists e (effect.Notify i k) = i < length e.schedule.waiters.items
 HasLists e (effect.Cancel i) = i < length e.schedule.waiters.items
 HasLists e effect.Stop = Unit {0}
@@ -158,7 +159,7 @@ HasLists e effect.Stop = Unit {0}
 -- who waits on what these effects touch may be asked
 pub record MayRefresh (design : Design) (e : Engine) (effects : List Effect) : Type 0 where
   pub lists : All (HasLists e) effects
-  pub notices : AreNotices design (lists_of e.notices.items)
+  pub channel_events : AreChannelEvents design (lists_of e.channel_events.items)
   pub count : length e.schedule.waiters.items ≡ length design.events
   pub knows : KnowsWaiters e.schedule
   pub may : MayAskAll e.bank e.schedule
@@ -171,20 +172,20 @@ pub record Refreshed (design : Design) (effects : List Effect) (old new : Engine
   pub all : (e : ℕ) (k : BoundEvent) → slice_get design.events e ≡ Some k → list_any (affects e k) effects ≡ true → Contains events e
 
 -- the lists of channel c
-abbrev pub notices_of : Engine → ℕ → List ℕ
-notices_of e c = slice_index_or (lists_of e.notices.items) c []
+abbrev pub events_of_channel : Engine → ℕ → List ℕ
+events_of_channel e c = slice_index_or (lists_of e.channel_events.items) c []
 
 -- who waits on an event of channel c may be asked
 pub record MayTouch (e : Engine) (c : ℕ) : Type 0 where
-  pub within : c < length e.notices.items
-  pub events : All (λ i. i < length e.schedule.waiters.items) (notices_of e c)
+  pub within : c < length e.channel_events.items
+  pub events : All (λ i. i < length e.schedule.waiters.items) (events_of_channel e c)
   pub knows : KnowsWaiters e.schedule
   pub may : MayAskAll e.bank e.schedule
 
 -- who waits on one was
 pub record Touches (c : ℕ) (old new : Engine) : Type 0 where
   pub rest : new ≡ record old { schedule = new.schedule }
-  pub touched : Touched (notices_of old c) old.bank old.stamp old.schedule new.schedule
+  pub touched : Touched (events_of_channel old c) old.bank old.stamp old.schedule new.schedule
 
 -- an effect is a call of sc_stop
 abbrev pub is_stop : Effect → Bool
@@ -199,21 +200,21 @@ pub record Noted (output : List ℕ) (effects : List Effect) (old new : Engine) 
   pub stopped_is : new.stopped ≡ (old.stopped || list_any is_stop effects)
 
 -- what a process waits for after an activation
-abbrev pub held_after : Stamp → JobEnd → Held
-held_after now end = held_of (wait_after now end)
+abbrev pub awaited_after : Stamp → JobEnd → Awaited
+awaited_after now end = awaited_of (wait_after now end)
 
 -- a process may end its activation so
 pub record MayClose (design : Design) (e : Engine) (p : ℕ) (end : JobEnd) : Type 0 where
-  pub within : p < length e.schedule.held.items
+  pub within : p < length e.schedule.awaited.items
   pub knows : KnowsWaiters e.schedule
-  pub asked : MayAsk e.bank (held_after e.stamp end).events (length e.schedule.waiters.items)
+  pub asked : MayAsk e.bank (awaited_after e.stamp end).events (length e.schedule.waiters.items)
   pub countable : IsCountableStamp e.stamp
   pub fits : FitsEnd design end
 
 -- a process waits after its activation
 pub record Rests (p : ℕ) (end : JobEnd) (old new : Engine) : Type 0 where
   pub rest : new ≡ record old { schedule = new.schedule }
-  pub waits : Waits p (held_after old.stamp end) old.bank old.stamp old.schedule new.schedule
+  pub waits : Waits p (awaited_after old.stamp end) old.bank old.stamp old.schedule new.schedule
   pub whole : broken_by (place_of old.stamp p) end ≡ None
 
 -- its activation ended the run

@@ -1,7 +1,7 @@
 pub mod Agenda
 pub mod Row
 pub mod Deltas
-pub mod Line
+pub mod DueQueue
 pub mod Schedule
 pub mod Tracking
 pub mod Fitting

@@ -10,30 +10,30 @@ use Rattle.ooo_channels.specs.Operations.{Operations}
 use Rattle.ooo_channels.specs.Calls.{FiresAt}
 use Rattle.ooo_channels.specs.Conditions.{HasEventAt}
 use Rattle.ooo_channels.specs.Bank.{BankState, IsBankAfter}
-use Rattle.ooo_plain.specs.declared.schedule.Held.{Held}
+use Rattle.ooo_plain.specs.declared.schedule.Awaited.{Awaited}
 use Rattle.ooo_plain.specs.declared.schedule.Schedule.{Schedule}
 use Rattle.ooo_plain.specs.Agenda.{due_in}
 
 -- ---- what processes wait for
 
 -- a process that waits for nothing
-abbrev pub nothing_held : Held
-nothing_held = record { events = []; timeout = None }
+abbrev pub nothing_awaited : Awaited
+nothing_awaited = record { events = []; timeout = None }
 
 -- these events, and a time-out
-abbrev pub held_for : List ℕ → Option Stamp → Held
-held_for events timeout = record { events = events; timeout = timeout }
+abbrev pub awaited_for : List ℕ → Option Stamp → Awaited
+awaited_for events timeout = record { events = events; timeout = timeout }
 
 -- event e alone, without a time-out
-abbrev pub alone : ℕ → Held
-alone e = held_for (e ∷ []) None
+abbrev pub alone : ℕ → Awaited
+alone e = awaited_for (e ∷ []) None
 
 -- what process p waits for; a process that there isn't waits for nothing
-abbrev pub held_at : List Held → ℕ → Held
-held_at held p = slice_index_or held p nothing_held
+abbrev pub awaited_at : List Awaited → ℕ → Awaited
+awaited_at awaited p = slice_index_or awaited p nothing_awaited
 
 -- event e is among those that are waited on
-abbrev pub waits_on : ℕ → Held → Bool
+abbrev pub waits_on : ℕ → Awaited → Bool
 waits_on e h = list_any (λ i. i == e) h.events
 
 -- the lists of those that may wait on each event
@@ -46,15 +46,15 @@ waiting_on s e = slice_index_or (lists_of s.waiters.items) e []
 
 -- who waits on an event stands in its list, and all who stand there are processes
 pub record KnowsWaiters (s : Schedule) : Type 0 where
-  pub count : length s.agenda ≡ length s.held.items
-  pub all : (p e : ℕ) → waits_on e (held_at s.held.items p) ≡ true → Contains (waiting_on s e) p
-  pub within : (e : ℕ) → All (λ p. p < length s.held.items) (waiting_on s e)
+  pub count : length s.agenda ≡ length s.awaited.items
+  pub all : (p e : ℕ) → waits_on e (awaited_at s.awaited.items p) ≡ true → Contains (waiting_on s e) p
+  pub within : (e : ℕ) → All (λ p. p < length s.awaited.items) (waiting_on s e)
 
 -- ---- as it starts
 
 -- so many processes that wait for nothing
-abbrev pub AreIdle : ℕ → List Held → Type 0
-AreIdle count held = held ≡ replicate count nothing_held
+abbrev pub AreIdle : ℕ → List Awaited → Type 0
+AreIdle count awaited = awaited ≡ replicate count nothing_awaited
 
 -- so many lists without elements
 abbrev pub AreEmpty : ℕ → List (Vec ℕ) → Type 0
@@ -63,7 +63,7 @@ AreEmpty count lists = lists_of lists ≡ replicate count []
 -- no process is due, and none waits for anything
 pub record IsNew (processes events : ℕ) (s : Schedule) : Type 0 where
   pub agenda : s.agenda ≡ replicate processes None
-  pub held : AreIdle processes s.held.items
+  pub awaited : AreIdle processes s.awaited.items
   pub waiters : AreEmpty events s.waiters.items
 
 -- ---- what the bank is asked
@@ -83,15 +83,15 @@ pub record MayAsk (bank : BankState) (events : List ℕ) (count : ℕ) : Type 0 
 pub record MayAskAll (bank : BankState) (s : Schedule) : Type 0 where
   pub ops : Operations
   pub bank_is : IsBankAfter bank ops
-  pub known : (p : ℕ) → All (HasEventAt ops) (held_at s.held.items p).events
+  pub known : (p : ℕ) → All (HasEventAt ops) (awaited_at s.awaited.items p).events
 
 -- when a process is due that waits so: at the earliest of its time-out and, for each event, its first firing after now
-abbrev pub IsDueBy : Operations → Stamp → Held → Option Stamp → Type 0
+abbrev pub IsDueBy : Operations → Stamp → Awaited → Option Stamp → Type 0
 IsDueBy ops now h due =
     (first : ℕ → Option Stamp) → All (λ e. IsFirstAfter (FiresAt ops e) now (first e)) h.events → due ≡ sooner h.timeout (least (map first h.events))
 
 -- so it is by whatever operations were applied to the bank
-abbrev pub IsAsked : BankState → Stamp → Held → Option Stamp → Type 0
+abbrev pub IsAsked : BankState → Stamp → Awaited → Option Stamp → Type 0
 IsAsked bank now h due = (ops : Operations) → IsBankAfter bank ops → ¬ IsBefore now ops.below → IsDueBy ops now h due
 
 -- the least of the first firings of these events
@@ -111,13 +111,13 @@ pub record Joined (p : ℕ) (events : List ℕ) (old new : Schedule) : Type 0 wh
 
 -- a process waits on these events from now on, and stands among those that may
 pub record Listens (p : ℕ) (events : List ℕ) (old new : Schedule) : Type 0 where
-  pub rest : new ≡ record old { held = new.held; waiters = new.waiters }
+  pub rest : new ≡ record old { awaited = new.awaited; waiters = new.waiters }
   pub joined : Joined p events old (record old { waiters = new.waiters })
-  pub held : new.held.items ≡ slice_set old.held.items p (held_for events (held_at old.held.items p).timeout)
+  pub awaited : new.awaited.items ≡ slice_set old.awaited.items p (awaited_for events (awaited_at old.awaited.items p).timeout)
 
 -- a process waits so from now on, and is due when the bank says
-pub record Waits (p : ℕ) (h : Held) (bank : BankState) (now : Stamp) (old new : Schedule) : Type 0 where
-  pub held : new.held.items ≡ slice_set old.held.items p h
+pub record Waits (p : ℕ) (h : Awaited) (bank : BankState) (now : Stamp) (old new : Schedule) : Type 0 where
+  pub awaited : new.awaited.items ≡ slice_set old.awaited.items p h
   pub due : Option Stamp
   pub agenda : new.agenda ≡ slice_set old.agenda p due
   pub asked : IsAsked bank now h due
@@ -125,7 +125,7 @@ pub record Waits (p : ℕ) (h : Held) (bank : BankState) (now : Stamp) (old new 
   pub count : length new.waiters.items ≡ length old.waiters.items
 
 -- a process is due now still, or it was asked anew
-abbrev pub AskedAnew : BankState → Stamp → Held → Option Stamp → Option Stamp → Type 0
+abbrev pub AskedAnew : BankState → Stamp → Awaited → Option Stamp → Option Stamp → Type 0
 AskedAnew bank now h old new = (¬ (old ≡ Some now) × IsAsked bank now h new) ⊎ ((new ≡ old) × (old ≡ Some now))
 
 -- one process was
@@ -133,19 +133,19 @@ pub record RefreshedOne (q : ℕ) (bank : BankState) (now : Stamp) (old new : Sc
   pub rest : new ≡ record old { agenda = new.agenda }
   pub due : Option Stamp
   pub agenda : new.agenda ≡ slice_set old.agenda q due
-  pub asked : AskedAnew bank now (held_at old.held.items q) (due_in old.agenda q) due
+  pub asked : AskedAnew bank now (awaited_at old.awaited.items q) (due_in old.agenda q) due
 
 -- each process was, or its stamp stays and it waits on none of these events
 pub record Touched (events : List ℕ) (bank : BankState) (now : Stamp) (old new : Schedule) : Type 0 where
   pub rest : new ≡ record old { agenda = new.agenda }
   pub count : length new.agenda ≡ length old.agenda
-  pub each : (p : ℕ) → p < length old.agenda → AskedAnew bank now (held_at old.held.items p) (due_in old.agenda p) (due_in new.agenda p) ⊎ ((due_in new.agenda p ≡ due_in old.agenda p) × ((e : ℕ) → Contains events e → waits_on e (held_at old.held.items p) ≡ false))
+  pub each : (p : ℕ) → p < length old.agenda → AskedAnew bank now (awaited_at old.awaited.items p) (due_in old.agenda p) (due_in new.agenda p) ⊎ ((due_in new.agenda p ≡ due_in old.agenda p) × ((e : ℕ) → Contains events e → waits_on e (awaited_at old.awaited.items p) ≡ false))
 
 -- the first n that may wait on an event were asked anew
 pub record TouchedSoFar (e n : ℕ) (bank : BankState) (now : Stamp) (old new : Schedule) : Type 0 where
   pub rest : new ≡ record old { agenda = new.agenda }
   pub count : length new.agenda ≡ length old.agenda
-  pub each : (p : ℕ) → p < length old.agenda → AskedAnew bank now (held_at old.held.items p) (due_in old.agenda p) (due_in new.agenda p) ⊎ ((due_in new.agenda p ≡ due_in old.agenda p) × ¬ Contains (take n (waiting_on old e)) p)
+  pub each : (p : ℕ) → p < length old.agenda → AskedAnew bank now (awaited_at old.awaited.items p) (due_in old.agenda p) (due_in new.agenda p) ⊎ ((due_in new.agenda p ≡ due_in old.agenda p) × ¬ Contains (take n (waiting_on old e)) p)
 
 -- the first n that may wait on an event were; where there are more, the bank has the event
 pub record TouchedOthers (e n : ℕ) (bank : BankState) (now : Stamp) (old new : Schedule) : Type 0 where

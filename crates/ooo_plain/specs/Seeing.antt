@@ -15,7 +15,7 @@ open_seen now c (IsFifo f) = seen.Fifo c (available f) (free_slots f)
 
 -- what is seen so of some channels of a world, by their numbers
 abbrev pub all_open : World → List ℕ → List Seen
-all_open w names = map (λ c. open_seen w.stamp.time c (channel_at w.channels c)) names
+all_open w cs = map (λ c. open_seen w.stamp.time c (channel_at w.channels c)) cs
 
 -- the size of a fifo, and the processes that hold its ends
 pub record Ends : Type 0 where

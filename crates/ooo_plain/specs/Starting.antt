@@ -17,8 +17,8 @@ use Rattle.ooo_plain.specs.declared.engine.Process.{Process}
 use Rattle.ooo_plain.specs.declared.engine.Engine.{Engine}
 use Rattle.ooo_plain.specs.declared.schedule.Schedule.{Schedule}
 use Rattle.ooo_plain.specs.Agenda.{due_in}
-use Rattle.ooo_plain.specs.Schedule.{held_at, KnowsWaiters}
-use Rattle.ooo_plain.specs.Tracking.{will_run, held_of, IsPlanned}
+use Rattle.ooo_plain.specs.Schedule.{awaited_at, KnowsWaiters}
+use Rattle.ooo_plain.specs.Tracking.{will_run, awaited_of, IsPlanned}
 use Rattle.ooo_plain.specs.Engine.{Mirrors, frames_of, frame_of}
 
 -- the world before initialization
@@ -42,17 +42,17 @@ abbrev pub AreFirstProcesses : List Proc → List Process → Type 0
 AreFirstProcesses bound processes = map frame_of processes ≡ map first_frame bound
 
 -- the lists of each channel's events have the first n events
-pub record AreNoticesOf (design : Design) (n : ℕ) (notices : List (List ℕ)) : Type 0 where
-  pub count : length notices ≡ length design.channels
-  pub within : (c : ℕ) → All (λ e. e < length design.events) (slice_index_or notices c [])
-  pub all : (e : ℕ) (k : BoundEvent) → e < n → slice_get design.events e ≡ Some k → k ≢ event.Own → Contains (slice_index_or notices (channel_of k) []) e
+pub record AreFirstChannelEvents (design : Design) (n : ℕ) (channel_events : List (List ℕ)) : Type 0 where
+  pub count : length channel_events ≡ length design.channels
+  pub within : (c : ℕ) → All (λ e. e < length design.events) (slice_index_or channel_events c [])
+  pub all : (e : ℕ) (k : BoundEvent) → e < n → slice_get design.events e ≡ Some k → k ≢ event.Own → Contains (slice_index_or channel_events (channel_of k) []) e
 
 -- the first p processes of a design are due, or wait, as they start
 pub record AreBegun (design : Design) (p : ℕ) (s : Schedule) : Type 0 where
   pub count : length s.agenda ≡ length design.processes
   pub dues : (q : ℕ) → q < p → due_in s.agenda q ≡ will_run zero_stamp (update (first_world_of design)).slots (wait_at (first_world_of design).waits q)
-  pub held : (q : ℕ) → q < p → (wait_at (first_world_of design).waits q).runnable ≡ false → held_at s.held.items q ≡ held_of (wait_at (first_world_of design).waits q)
-  pub known : (q : ℕ) → All (λ e. e < length s.waiters.items) (held_at s.held.items q).events
+  pub awaited : (q : ℕ) → q < p → (wait_at (first_world_of design).waits q).runnable ≡ false → awaited_at s.awaited.items q ≡ awaited_of (wait_at (first_world_of design).waits q)
+  pub known : (q : ℕ) → All (λ e. e < length s.waiters.items) (awaited_at s.awaited.items q).events
   pub knows : KnowsWaiters s
   pub lists : length s.waiters.items ≡ length design.events
 

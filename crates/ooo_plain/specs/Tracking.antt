@@ -8,32 +8,32 @@ use Rattle.ooo_code.specs.declared.activation.Effect.{Effect}
 use Rattle.ooo_meaning.specs.World.{World, Wait, wait_at, activity, update}
 use Rattle.ooo_channels.specs.Operations.{is_call_on}
 use Rattle.ooo_channels.specs.Calls.{bears_on}
-use Rattle.ooo_plain.specs.declared.schedule.Held.{Held}
+use Rattle.ooo_plain.specs.declared.schedule.Awaited.{Awaited}
 use Rattle.ooo_plain.specs.declared.schedule.Schedule.{Schedule}
 use Rattle.ooo_plain.specs.Agenda.{due_in}
-use Rattle.ooo_plain.specs.Schedule.{held_at, KnowsWaiters}
+use Rattle.ooo_plain.specs.Schedule.{awaited_at, KnowsWaiters}
 
 -- when a process runs next, if nothing more is done: now where it is runnable
 abbrev pub will_run : Stamp → List Slot → Wait → Option Stamp
 will_run now slots x = if x.runnable then Some now else activity slots x
 
 -- what a process waits for, as the schedule keeps it
-abbrev pub held_of : Wait → Held
-held_of x = record { events = x.events; timeout = due_of x.timeout }
+abbrev pub awaited_of : Wait → Awaited
+awaited_of x = record { events = x.events; timeout = due_of x.timeout }
 
 -- each process is due when it will run, and who isn't runnable is kept with what it waits for
 pub record IsPlanned (s : Schedule) (w : World) : Type 0 where
   pub dues : s.agenda ≡ map (will_run w.stamp (update w).slots) w.waits
-  pub held : (p : ℕ) → (wait_at w.waits p).runnable ≡ false → held_at s.held.items p ≡ held_of (wait_at w.waits p)
-  pub known : (p : ℕ) → All (λ e. e < length s.waiters.items) (held_at s.held.items p).events
+  pub awaited : (p : ℕ) → (wait_at w.waits p).runnable ≡ false → awaited_at s.awaited.items p ≡ awaited_of (wait_at w.waits p)
+  pub known : (p : ℕ) → All (λ e. e < length s.waiters.items) (awaited_at s.awaited.items p).events
   pub knows : KnowsWaiters s
 
 -- so is each but process p, which is at work
 pub record IsPlannedBut (p : ℕ) (s : Schedule) (w : World) : Type 0 where
   pub count : length s.agenda ≡ length w.waits
   pub dues : (q : ℕ) → q ≢ p → due_in s.agenda q ≡ will_run w.stamp (update w).slots (wait_at w.waits q)
-  pub held : (q : ℕ) → q ≢ p → (wait_at w.waits q).runnable ≡ false → held_at s.held.items q ≡ held_of (wait_at w.waits q)
-  pub known : (q : ℕ) → All (λ e. e < length s.waiters.items) (held_at s.held.items q).events
+  pub awaited : (q : ℕ) → q ≢ p → (wait_at w.waits q).runnable ≡ false → awaited_at s.awaited.items q ≡ awaited_of (wait_at w.waits q)
+  pub known : (q : ℕ) → All (λ e. e < length s.waiters.items) (awaited_at s.awaited.items q).events
   pub knows : KnowsWaiters s
 
 -- an effect on event e, of a kind, makes it fire at other stamps

@@ -2,7 +2,7 @@ ghost use Rattle.std.specs.Prelude.{◌≡◌, ◌<◌, None, OnOk, IfOk, replic
 ghost use Rattle.ooo_meaning.specs.World.{least};
 ghost use Rattle.ooo_plain.specs.Agenda.{due_in, AllFrom, Takes, TakesNone};
 
-use crate::line::Line;
+use crate::due_queue::DueQueue;
 use ooo_time::Stamp;
 use std::alloc::{AllocError, Global};
 use std::marker::Model;
@@ -18,19 +18,19 @@ pub struct Due {
 #[derive(Debug, Drop)]
 pub struct Agenda {
     dues: Vec<Option<Stamp>>,
-    line: Line,
+    queue: DueQueue,
 }
 
 impl Model for Agenda {
     ghost use Rattle.std.specs.Prelude.{List, Option};
     ghost use Rattle.ooo_time.specs.declared.stamp.Stamp.{Stamp};
-    ghost use Rattle.ooo_plain.specs.Line.{IsExact};
+    ghost use Rattle.ooo_plain.specs.DueQueue.{IsExact};
 
     ghost Value = { List (Option Stamp) };
 
     ghost view = { λ a. a.dues.items };
 
-    ghost invariant = { λ a. IsExact a.dues.items a.line };
+    ghost invariant = { λ a. IsExact a.dues.items a.queue };
 }
 
 impl Agenda {
@@ -44,7 +44,7 @@ impl Agenda {
     {
         Ok(Agenda {
             dues: vec![in alloc; None; count]?,
-            line: Line::new(alloc),
+            queue: DueQueue::new(alloc),
         })
     }
 
@@ -78,7 +78,7 @@ impl Agenda {
     {
         self.clear(p);
         if let Some(stamp) = due {
-            self.line.insert(Due { stamp, process: p })?;
+            self.queue.insert(Due { stamp, process: p })?;
             self.dues[p] = due;
         }
         Ok(())
@@ -90,7 +90,7 @@ impl Agenda {
         ensures { self.new ≡ slice_set self.old p None }
     {
         if let Some(stamp) = self.dues[p] {
-            self.line.remove(Due { stamp, process: p });
+            self.queue.remove(Due { stamp, process: p });
             self.dues[p] = None;
         }
     }
@@ -101,11 +101,11 @@ impl Agenda {
         ensures taken { IfSome result (λ p. Takes p now self.old self.new) }
         ensures none { IfNone result (TakesNone now self.old self.new) }
     {
-        let first = self.line.first()?;
+        let first = self.queue.first()?;
         if now.is_before(first.stamp) {
             return None;
         }
-        self.line.take(first);
+        self.queue.take(first);
         self.dues[first.process] = None;
         Some(first.process)
     }
@@ -114,7 +114,7 @@ impl Agenda {
     pub fn first(&self) -> Option<Stamp>
         ensures { result ≡ least self.now }
     {
-        Some(self.line.first()?.stamp)
+        Some(self.queue.first()?.stamp)
     }
 }
 

@@ -7,6 +7,7 @@ use crate::engine::Engine;
 use crate::laws::laws;
 use ooo_code::{Design, Limits};
 use ooo_history::End;
+use ooo_interp::Emitted;
 use ooo_time::Stamp;
 use std::alloc::{AllocError, Global};
 
@@ -23,7 +24,7 @@ pub enum Pass {
 
 /// What follows a cycle.
 #[derive(Clone, Copy, Debug)]
-pub enum Then {
+pub enum CycleEnd {
     /// The run is over, with the histories up to the cycle of a stamp.
     Over(End, Stamp),
     /// Another cycle.
@@ -36,6 +37,7 @@ impl Engine {
         &mut self,
         alloc: Global,
         design: &Design,
+        emitted: &mut Emitted,
         statements: u32,
     ) -> Result<Pass, AllocError>
         requires sound { IsSound design.now }
@@ -47,7 +49,7 @@ impl Engine {
         let Some(p) = self.schedule.take(self.stamp) else {
             return Ok(Pass::Nobody);
         };
-        match self.turn(alloc, design, p as u32, statements)? {
+        match self.turn(alloc, design, emitted, p as u32, statements)? {
             None => Ok(Pass::Had(p)),
             Some(end) => Ok(Pass::Broke(end)),
         }
@@ -59,6 +61,7 @@ impl Engine {
         &mut self,
         alloc: Global,
         design: &Design,
+        emitted: &mut Emitted,
         statements: u32,
     ) -> Result<Option<End>, AllocError>
         requires sound { IsSound design.now }
@@ -69,7 +72,7 @@ impl Engine {
     {
         let mut next = 0;
         'turns: loop {
-            match self.pass_next(alloc, design, statements)? {
+            match self.pass_next(alloc, design, emitted, statements)? {
                 Pass::Nobody => return Ok(None),
                 Pass::Had(p) => next = p + 1,
                 Pass::Broke(end) => return Ok(Some(end)),
@@ -77,7 +80,8 @@ impl Engine {
         }
     }
 
-    /// One cycle, from its evaluation up to the next stamp at which a process runs (4.2.1).
+    /// One cycle, from its evaluation up to the next stamp at which a process runs (4.2.1). Its activations emit, one
+    /// after the other, into what is lent for that.
     ///
     /// # Errors
     ///
@@ -86,8 +90,9 @@ impl Engine {
         &mut self,
         alloc: Global,
         design: &Design,
+        emitted: &mut Emitted,
         limits: &Limits,
-    ) -> Result<Then, AllocError>
+    ) -> Result<CycleEnd, AllocError>
         requires sound { IsSound design.now }
         requires few { IsFew design.now }
         requires range { AreInRange limits.now }
@@ -97,27 +102,27 @@ impl Engine {
         ensures { IfOk result (λ t. Cycles design.now limits.now t self.old self.new) }
     {
         laws();
-        if let Some(end) = self.evaluate(alloc, design, limits.statements)? {
-            return Ok(Then::Over(end, self.stamp));
+        if let Some(end) = self.evaluate(alloc, design, emitted, limits.statements)? {
+            return Ok(CycleEnd::Over(end, self.stamp));
         }
         let after = Stamp {
             time: self.stamp.time,
             delta: self.stamp.delta + 1,
         };
         if self.stopped {
-            return Ok(Then::Over(End::Stop(self.stamp), after));
+            return Ok(CycleEnd::Over(End::Stop(self.stamp), after));
         }
         let Some(next) = self.schedule.first() else {
-            return Ok(Then::Over(End::Idle(self.last), after));
+            return Ok(CycleEnd::Over(End::Idle(self.last), after));
         };
         if next.time.0 > limits.stop.0 {
-            return Ok(Then::Over(End::Time(limits.stop), after));
+            return Ok(CycleEnd::Over(End::Time(limits.stop), after));
         }
         if next.delta == limits.deltas {
-            return Ok(Then::Over(End::Deltas(next), after));
+            return Ok(CycleEnd::Over(End::Deltas(next), after));
         }
         self.stamp = next;
         self.bank.forget(next);
-        Ok(Then::Goes)
+        Ok(CycleEnd::Goes)
     }
 }

@@ -5,20 +5,21 @@ ghost use Rattle.ooo_events.specs.Slots.{due_of};
 ghost use Rattle.ooo_code.specs.declared.design.Design.{Design as DesignSpec};
 ghost use Rattle.ooo_code.specs.Sound.{IsSound};
 ghost use Rattle.ooo_channels.specs.Conditions.{IsCountableStamp};
-ghost use Rattle.ooo_interp.specs.Jobs.{job_end};
+ghost use Rattle.ooo_interp.specs.Acting.{job_end};
 ghost use Rattle.ooo_meaning.specs.World.{timeout_of};
 ghost use Rattle.ooo_channels.specs.Operations.{Operations};
 ghost use Rattle.ooo_meaning.specs.World.{World};
 ghost use Rattle.ooo_plain.specs.Engine.{IsFew, MayAct, Acts, MayApply, Applied, MayRefresh, Refreshed, MayTouch, Touches, is_stop, Noted, MayClose, Closed, Turned, Mirrors, MayTurn};
 ghost use Rattle.ooo_plain.specs.Tracking.{IsPlannedBut};
 
+use crate::bank_fifos::BankFifos;
 use crate::laws::laws;
 use crate::ports::open_ports;
 use crate::schedule::Schedule;
 use ooo_channels::Bank;
-use ooo_code::{Design, Effect, SegmentEntry};
+use ooo_code::{Cells, Design, Effect, SegmentEntry};
 use ooo_history::End;
-use ooo_interp::{LentEnd, Ran, Room, Start, Whole, run_process};
+use ooo_interp::{Emitted, Halt, Ports, Start, Whole, run_process};
 use ooo_time::{Place, Stamp, Time, after};
 use ooo_value::Value;
 use std::alloc::{AllocError, Global};
@@ -37,16 +38,14 @@ pub struct Engine {
     pub stamp: Stamp,
     pub schedule: Schedule,
     pub processes: Vec<Process>,
-    /// Of each process, the numbers of the channels that its nodes are shown something of.
-    pub names: Vec<Vec<u32>>,
+    /// Of each process, the numbers of the channels that its nodes are shown something of, ascending.
+    pub shown_channels: Vec<Vec<u32>>,
     /// Of each channel, the numbers of its events.
-    pub notices: Vec<Vec<u32>>,
+    pub channel_events: Vec<Vec<u32>>,
     pub bank: Bank,
-    /// What a process is lent while it runs: its locals, all variables, and the ports of its channels. Between
-    /// activations only the variables count; the memory of the ports is used again.
-    pub parts: Whole,
-    /// What an activation's output and effects grow in.
-    pub room: Room,
+    pub variables: Vec<Cells>,
+    /// The ports of the last process that ran. Their memory is used again.
+    pub ports: Ports,
     pub output: Vec<u8>,
     /// The stamp of the last activation.
     pub last: Stamp,
@@ -55,25 +54,25 @@ pub struct Engine {
 }
 
 impl Engine {
-    // A process runs from where it is: what it did.
+    // A process runs from where it is: what it emitted, and how its activation ended.
     #[inline(always)]
     fn act<'a>(
         &mut self,
         alloc: Global,
         design: &'a Design,
+        emitted: &mut Emitted,
         p: u32,
         statements: u32,
-    ) -> Result<Ran<'a>, AllocError>
+    ) -> Result<Halt<'a>, AllocError>
         requires sound { IsSound design.now }
         requires few { IsFew design.now }
         requires may { MayAct design.now self.old p }
-        ensures { IfOk result (Acts design.now statements p self.old self.new) }
+        ensures { IfOk result (Acts design.now statements p self.old self.new emitted.new) }
     {
         laws();
         let at = p as usize;
-        let names = &self.names[at];
-        let ports = &mut self.parts.ports;
-        open_ports(alloc, ports, design, &self.bank, self.stamp, names)?;
+        let channels = &self.shown_channels[at];
+        open_ports(&mut self.ports, design, &self.bank, self.stamp, channels)?;
         let process = &mut self.processes[at];
         let start = Start {
             process: p,
@@ -81,13 +80,25 @@ impl Engine {
             stamp: self.stamp,
             statements,
         };
-        mem::swap(&mut self.parts.slots, &mut process.slots);
-        let room = mem::replace(&mut self.room, Room::new(alloc));
-        let ran = run_process(&mut self.parts, design, start, room)?;
+        let mut lent = Whole {
+            slots: mem::replace(&mut process.slots, Vec::new(alloc)),
+            variables: mem::replace(&mut self.variables, Vec::new(alloc)),
+            ports: mem::replace(&mut self.ports, Ports::new(alloc)),
+            fifos: BankFifos::new(design, &self.bank, self.stamp),
+        };
+        let halt = run_process(&mut lent, emitted, design, start)?;
+        let Whole {
+            slots,
+            variables,
+            ports,
+            fifos: _,
+        } = lent;
+        self.variables = variables;
+        self.ports = ports;
         let process = &mut self.processes[at];
-        process.entry = ran.entry;
-        mem::swap(&mut self.parts.slots, &mut process.slots);
-        Ok(ran)
+        process.entry = halt.entry_after(start.entry);
+        process.slots = slots;
+        Ok(halt)
     }
 
     // Applies the effects of an activation now.
@@ -105,7 +116,7 @@ impl Engine {
         requires { MayRefresh design.now self.old effects.now }
         ensures { OnOk result (Refreshed design.now effects.now self.old self.new) }
     {
-        'effects: for effect in effects {
+        for effect in effects {
             self.refresh_for(design, *effect)?;
         }
         Ok(())
@@ -118,25 +129,9 @@ impl Engine {
     {
         let _events = design.events.len();
         match effect {
-            Effect::Request(c, _) => {
-                self.touch_channel(c)?;
-                Ok(())
-            }
-            Effect::Put(c, _) => {
-                self.touch_channel(c)?;
-                Ok(())
-            }
-            Effect::Take(c) => {
-                self.touch_channel(c)?;
-                Ok(())
-            }
-            Effect::Notify(e, _) => {
-                self.schedule.touch(e, &self.bank, self.stamp)?;
-                Ok(())
-            }
-            Effect::Cancel(e) => {
-                self.schedule.touch(e, &self.bank, self.stamp)?;
-                Ok(())
+            Effect::Request(c, _) | Effect::Put(c, _) | Effect::Take(c) => self.touch_channel(c),
+            Effect::Notify(e, _) | Effect::Cancel(e) => {
+                self.schedule.touch(e, &self.bank, self.stamp)
             }
             Effect::Stop => Ok(()),
         }
@@ -147,9 +142,8 @@ impl Engine {
         requires { MayTouch self.old c }
         ensures { OnOk result (Touches c self.old self.new) }
     {
-        let events = self.notices[c as usize].as_slice();
-        self.schedule.touch_all(events, &self.bank, self.stamp)?;
-        Ok(())
+        let events = self.channel_events[c as usize].as_slice();
+        self.schedule.touch_all(events, &self.bank, self.stamp)
     }
 
     // Adds an activation's output, and notes whether it called `sc_stop`.
@@ -166,33 +160,34 @@ impl Engine {
 
     // A process ends its activation: it waits, or it ends the run.
     #[inline(always)]
-    fn close(&mut self, alloc: Global, p: u32, end: LentEnd<'_>) -> Result<Option<End>, AllocError>
-        requires { (design : DesignSpec) × MayClose design self.old p (job_end end) }
-        ensures { IfOk result (λ o. Closed p (job_end end.entry) o self.old self.new) }
+    fn close(&mut self, alloc: Global, p: u32, halt: Halt<'_>) -> Result<Option<End>, AllocError>
+        requires { (design : DesignSpec) × MayClose design self.old p (job_end halt) }
+        ensures { IfOk result (λ o. Closed p (job_end halt.entry) o self.old self.new) }
     {
         let place = Place {
             stamp: self.stamp,
             process: p,
         };
-        match end {
-            LentEnd::Waits(on) => {
+        match halt {
+            Halt::Waits(_, on) => {
                 let timeout = timeout_due(self.stamp, on.time);
                 let events = on.events.as_slice();
                 self.schedule
                     .wait(alloc, p as usize, events, timeout, &self.bank, self.stamp)?;
                 Ok(None)
             }
-            LentEnd::Ended => {
+            Halt::Ended => {
                 self.schedule
                     .wait(alloc, p as usize, &[], None, &self.bank, self.stamp)?;
                 Ok(None)
             }
-            LentEnd::Faulted(fault, line) => Ok(Some(End::Fault(fault, place, line))),
-            LentEnd::Limit(line) => Ok(Some(End::Statements(place, line))),
+            Halt::Faulted(fault, line) => Ok(Some(End::Fault(fault, place, line))),
+            Halt::Limit(line) => Ok(Some(End::Statements(place, line))),
         }
     }
 
-    /// A process that was taken off has its turn: how that ended the run, if it did.
+    /// A process that was taken off has its turn, and emits into what it is lent for that: how that ended the run, if it
+    /// did.
     ///
     /// # Errors
     ///
@@ -201,6 +196,7 @@ impl Engine {
         &mut self,
         alloc: Global,
         design: &Design,
+        emitted: &mut Emitted,
         p: u32,
         statements: u32,
     ) -> Result<Option<End>, AllocError>
@@ -213,19 +209,11 @@ impl Engine {
             Turned design.now statements p o self.old self.new w) }
     {
         laws();
-        let ran = self.act(alloc, design, p, statements)?;
-        self.apply(&ran.effects)?;
-        self.refresh(design, &ran.effects)?;
-        self.note(&ran.output, &ran.effects)?;
-        let Ran {
-            entry: _,
-            output,
-            effects,
-            end,
-        } = ran;
-        self.room = Room { output, effects };
-        let closed = self.close(alloc, p, end)?;
-        Ok(closed)
+        let halt = self.act(alloc, design, emitted, p, statements)?;
+        self.apply(&emitted.effects)?;
+        self.refresh(design, &emitted.effects)?;
+        self.note(&emitted.output, &emitted.effects)?;
+        self.close(alloc, p, halt)
     }
 }
 

@@ -8,12 +8,13 @@ ghost use Rattle.ooo_plain.specs.Engine.{IsFew};
 ghost use Rattle.ooo_plain.specs.Cycles.{AreInRange, IsOver};
 ghost use Rattle.ooo_plain.specs.Running.{ShowsRun, ShowsOver, Reaches};
 
-use crate::cycles::Then;
+use crate::cycles::CycleEnd;
 use crate::engine::Engine;
 use crate::laws::laws;
 use crate::starting::start;
 use ooo_code::{Design, Limits, Proc};
 use ooo_history::{End, Piece, Run};
+use ooo_interp::Emitted;
 use ooo_time::{Place, Stamp, Time};
 use sqlite_items::Items;
 use std::alloc::{AllocError, Global};
@@ -36,15 +37,13 @@ pub fn run_plain(alloc: Global, design: &Design, limits: Limits) -> Result<Run, 
     }
     let engine = start(alloc, design)?;
     if is_some_initialized(design.processes.as_slice()) {
-        let run = run_on(alloc, design, limits, engine)?;
-        return Ok(run);
+        return run_on(alloc, design, limits, engine);
     }
     let zero = Stamp {
         time: Time::ZERO,
         delta: 0,
     };
-    let run = finish(alloc, engine, End::Idle(zero), zero)?;
-    Ok(run)
+    finish(alloc, engine, End::Idle(zero), zero)
 }
 
 // Whether some process is initialized.
@@ -81,13 +80,13 @@ pub fn run_on(
     ensures { IfOk result (ShowsRun design.now limits) }
 {
     let mut engine = engine;
+    let mut emitted = Emitted::new(alloc);
     'cycles: loop {
-        match engine.cycle(alloc, design, &limits)? {
-            Then::Over(end, at) => {
-                let run = finish(alloc, engine, end, at)?;
-                return Ok(run);
+        match engine.cycle(alloc, design, &mut emitted, &limits)? {
+            CycleEnd::Over(end, at) => {
+                return finish(alloc, engine, end, at);
             }
-            Then::Goes => {}
+            CycleEnd::Goes => {}
         }
     }
 }

@@ -2,7 +2,7 @@ ghost use Rattle.std.specs.Prelude.{◌≡◌, ◌↔◌, IsTrue, Some, ◌<◌,
 ghost use Rattle.ooo_meaning.specs.World.{sooner, least};
 ghost use Rattle.ooo_plain.specs.Agenda.{AllFrom, Takes, TakesNone};
 ghost use Rattle.ooo_channels.specs.Bank.{BankState};
-ghost use Rattle.ooo_plain.specs.Schedule.{IsNew, AreIdle, IsAsked, MayAskFor, MayAsk, MayAskAll, KnowsWaiters, Joined, Waits, RefreshedOne, Touched, TouchedOthers, AreEmpty, held_at, held_for, alone, Listens, IsLeastOf};
+ghost use Rattle.ooo_plain.specs.Schedule.{IsNew, AreIdle, IsAsked, MayAskFor, MayAsk, MayAskAll, KnowsWaiters, Joined, Waits, RefreshedOne, Touched, TouchedOthers, AreEmpty, awaited_at, awaited_for, alone, Listens, IsLeastOf};
 
 use crate::agenda::Agenda;
 use ooo_channels::Bank;
@@ -12,7 +12,7 @@ use std::alloc::{AllocError, Global};
 
 /// What a process waits for: events, and the stamp of its time-out. Of neither it waits for ever.
 #[derive(Debug, Drop)]
-pub struct Held {
+pub struct Awaited {
     pub events: Items<u32>,
     pub timeout: Option<Stamp>,
 }
@@ -21,7 +21,7 @@ pub struct Held {
 #[derive(Debug, Drop)]
 pub struct Schedule {
     pub agenda: Agenda,
-    pub held: Vec<Held>,
+    pub awaited: Vec<Awaited>,
     pub waiters: Vec<Vec<usize>>,
 }
 
@@ -36,7 +36,7 @@ impl Schedule {
     {
         Ok(Schedule {
             agenda: Agenda::new(alloc, processes)?,
-            held: idle_processes(alloc, processes)?,
+            awaited: idle_processes(alloc, processes)?,
             waiters: empty_lists(alloc, events)?,
         })
     }
@@ -73,42 +73,40 @@ impl Schedule {
         bank: &Bank,
         now: Stamp,
     ) -> Result<(), AllocError>
-        requires process { p < length self.old.held.items }
+        requires process { p < length self.old.awaited.items }
         requires knows { KnowsWaiters self.old }
         requires may { MayAsk bank.now events.now (length self.old.waiters.items) }
-        ensures { let held = held_for events.now timeout in
-            OnOk result (Waits p held bank.now now self.old self.new) }
+        ensures { let awaited = awaited_for events.now timeout in
+            OnOk result (Waits p awaited bank.now now self.old self.new) }
     {
         let due = earliest(bank, now, events, timeout);
         self.listen(alloc, p, events)?;
-        self.held[p].timeout = timeout;
-        self.agenda.set(p, due)?;
-        Ok(())
+        self.awaited[p].timeout = timeout;
+        self.agenda.set(p, due)
     }
 
     // A process waits on these events, as it does already where it waited on the same last.
     #[inline(always)]
     fn listen(&mut self, alloc: Global, p: usize, events: &[u32]) -> Result<(), AllocError>
-        requires process { p < length self.old.held.items }
+        requires process { p < length self.old.awaited.items }
         requires knows { KnowsWaiters self.old }
         requires within { All (λ e. e < length self.old.waiters.items) events.now }
         ensures { OnOk result (Listens p events.now self.old self.new) }
     {
-        if are_same(self.held[p].events.as_slice(), events) {
+        if are_same(self.awaited[p].events.as_slice(), events) {
             return Ok(());
         }
-        self.listen_anew(alloc, p, events)?;
-        Ok(())
+        self.listen_anew(alloc, p, events)
     }
 
     // A process waits on these events, whatever it waited on last.
     fn listen_anew(&mut self, alloc: Global, p: usize, events: &[u32]) -> Result<(), AllocError>
-        requires process { p < length self.old.held.items }
+        requires process { p < length self.old.awaited.items }
         requires within { All (λ e. e < length self.old.waiters.items) events.now }
         ensures { OnOk result (Listens p events.now self.old self.new) }
     {
         self.join_all(p, events)?;
-        self.held[p].events = Items::from_slice(alloc, events)?;
+        self.awaited[p].events = Items::from_slice(alloc, events)?;
         Ok(())
     }
 
@@ -117,7 +115,7 @@ impl Schedule {
         requires { All (λ e. e < length self.old.waiters.items) events.now }
         ensures { OnOk result (Joined p events.now self.old self.new) }
     {
-        'events: for e in events {
+        for e in events {
             self.join(p, *e as usize)?;
         }
         Ok(())
@@ -145,7 +143,7 @@ impl Schedule {
         requires may { MayAskAll bank.now self.old }
         ensures { OnOk result (Touched events.now bank.now now self.old self.new) }
     {
-        'events: for e in events {
+        for e in events {
             self.touch(*e, bank, now)?;
         }
         Ok(())
@@ -165,8 +163,7 @@ impl Schedule {
         if self.waiters[e as usize].is_empty() {
             return Ok(());
         }
-        self.touch_waiters(e, bank, now)?;
-        Ok(())
+        self.touch_waiters(e, bank, now)
     }
 
     // The same, where processes stand in the event's list. From the first of them on that waits on the event alone, the bank
@@ -184,7 +181,7 @@ impl Schedule {
             return Ok(());
         }
         let first = bank.first(e, now);
-        'waiters: for i in asked..count {
+        for i in asked..count {
             let q = self.waiters[at][i];
             self.refresh_knowing(q, e, first, bank, now)?;
         }
@@ -200,7 +197,7 @@ impl Schedule {
     {
         let at = e as usize;
         let count = self.waiters[at].len();
-        'waiters: for i in 0..count {
+        for i in 0..count {
             let q = self.waiters[at][i];
             if self.waits_only(q, e) {
                 return Ok(i);
@@ -213,11 +210,11 @@ impl Schedule {
     // Whether a process waits on an event alone, without a time-out.
     #[inline(always)]
     fn waits_only(&self, q: usize, e: u32) -> bool
-        requires { q < length self.now.held.items }
-        ensures { IsTrue result → held_at self.now.held.items q ≡ alone e }
+        requires { q < length self.now.awaited.items }
+        ensures { IsTrue result → awaited_at self.now.awaited.items q ≡ alone e }
     {
-        let held = &self.held[q];
-        held.timeout.is_none() && is_one(held.events.as_slice(), e)
+        let awaited = &self.awaited[q];
+        awaited.timeout.is_none() && is_one(awaited.events.as_slice(), e)
     }
 
     // A process is asked anew, unless it is due now, where an event's first firing is known.
@@ -230,65 +227,61 @@ impl Schedule {
         bank: &Bank,
         now: Stamp,
     ) -> Result<(), AllocError>
-        requires process { q < length self.old.held.items }
-        requires count { length self.old.agenda ≡ length self.old.held.items }
+        requires process { q < length self.old.awaited.items }
+        requires count { length self.old.agenda ≡ length self.old.awaited.items }
         requires may { MayAskAll bank.now self.old }
         requires first { IsAsked bank.now now (alone e) first }
         ensures { OnOk result (RefreshedOne q bank.now now self.old self.new) }
     {
         if self.waits_only(q, e) {
-            self.refresh_by(q, first, now)?;
-            return Ok(());
+            return self.refresh_by(q, first, now);
         }
-        self.refresh(q, bank, now)?;
-        Ok(())
+        self.refresh(q, bank, now)
     }
 
     // A process is due as it is told, unless it is due now.
     #[inline(always)]
     fn refresh_by(&mut self, q: usize, due: Option<Stamp>, now: Stamp) -> Result<(), AllocError>
-        requires process { q < length self.old.held.items }
-        requires count { length self.old.agenda ≡ length self.old.held.items }
-        ensures { let held = held_at self.old.held.items q in
-            OnOk result ((bank : BankState) → IsAsked bank now held due →
+        requires process { q < length self.old.awaited.items }
+        requires count { length self.old.agenda ≡ length self.old.awaited.items }
+        ensures { let awaited = awaited_at self.old.awaited.items q in
+            OnOk result ((bank : BankState) → IsAsked bank now awaited due →
             RefreshedOne q bank now self.old self.new) }
     {
         if is_now(self.agenda.due(q), now) {
             return Ok(());
         }
-        self.agenda.set(q, due)?;
-        Ok(())
+        self.agenda.set(q, due)
     }
 
     // A process is asked anew, unless it is due now.
     fn refresh(&mut self, q: usize, bank: &Bank, now: Stamp) -> Result<(), AllocError>
-        requires process { q < length self.old.held.items }
-        requires count { length self.old.agenda ≡ length self.old.held.items }
+        requires process { q < length self.old.awaited.items }
+        requires count { length self.old.agenda ≡ length self.old.awaited.items }
         requires may { MayAskAll bank.now self.old }
         ensures { OnOk result (RefreshedOne q bank.now now self.old self.new) }
     {
         if is_now(self.agenda.due(q), now) {
             return Ok(());
         }
-        let held = &self.held[q];
-        let due = earliest(bank, now, held.events.as_slice(), held.timeout);
-        self.agenda.set(q, due)?;
-        Ok(())
+        let awaited = &self.awaited[q];
+        let due = earliest(bank, now, awaited.events.as_slice(), awaited.timeout);
+        self.agenda.set(q, due)
     }
 }
 
 // So many processes that wait for nothing.
-fn idle_processes(alloc: Global, count: usize) -> Result<Vec<Held>, AllocError>
-    ensures { IfOk result (λ held. AreIdle count held.items) }
+fn idle_processes(alloc: Global, count: usize) -> Result<Vec<Awaited>, AllocError>
+    ensures { IfOk result (λ awaited. AreIdle count awaited.items) }
 {
-    let mut held = Vec::new(alloc);
-    'processes: for _process in 0..count {
-        held.push(Held {
+    let mut awaited = Vec::new(alloc);
+    for _process in 0..count {
+        awaited.push(Awaited {
             events: Items::new(alloc),
             timeout: None,
         })?;
     }
-    Ok(held)
+    Ok(awaited)
 }
 
 // So many lists without elements.
@@ -296,7 +289,7 @@ fn empty_lists(alloc: Global, count: usize) -> Result<Vec<Vec<usize>>, AllocErro
     ensures { IfOk result (λ lists. AreEmpty count lists.items) }
 {
     let mut lists = Vec::new(alloc);
-    'events: for _event in 0..count {
+    for _event in 0..count {
         lists.push(Vec::new(alloc))?;
     }
     Ok(lists)
@@ -352,7 +345,7 @@ fn earlier(a: Option<Stamp>, b: Option<Stamp>) -> Option<Stamp>
 #[inline(always)]
 fn earliest(bank: &Bank, now: Stamp, events: &[u32], timeout: Option<Stamp>) -> Option<Stamp>
     requires { MayAskFor bank.now events.now }
-    ensures { IsAsked bank.now now (held_for events.now timeout) result }
+    ensures { IsAsked bank.now now (awaited_for events.now timeout) result }
 {
     earlier(timeout, first_of(bank, now, events))
 }

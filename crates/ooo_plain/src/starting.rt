@@ -1,17 +1,19 @@
-ghost use Rattle.std.specs.Prelude.{◌≡◌, ◌+◌, ◌<◌, ◌^◌, ◌++◌, [], ◌∷◌, length, IfOk, OnOk, Some, slice_get, slice_set, slice_index_or};
+ghost use Rattle.std.specs.Prelude.{◌≡◌, ◌≢◌, ◌+◌, ◌<◌, ◌^◌, ◌++◌, [], ◌∷◌, length, IfOk, OnOk, MatchOption, Some, slice_get, slice_set, slice_index_or};
 ghost use Rattle.ooo_code.specs.Sound.{IsSound};
+ghost use Rattle.ooo_value.specs.declared.bound.BoundEvent.TheVariants as own;
 ghost use Rattle.ooo_channels.specs.Bank.{IsBankAfter};
-ghost use Rattle.ooo_plain.specs.Engine.{IsFew, AreNamesOf, AreNotices};
+ghost use Rattle.ooo_channels.specs.Calls.{channel_of};
+ghost use Rattle.ooo_plain.specs.Engine.{IsFew, AreShownChannels, AreChannelEvents};
 ghost use Rattle.ooo_plain.specs.Schedule.{lists_of, AreEmpty};
-ghost use Rattle.ooo_plain.specs.Starting.{zeros_of, first_cells, AreFirstProcesses, AreBegun, AreNoticesOf, Starts, first_operations};
+ghost use Rattle.ooo_plain.specs.Starting.{zeros_of, first_cells, AreFirstProcesses, AreBegun, AreFirstChannelEvents, Starts, first_operations};
 
 use crate::engine::{Engine, Process};
 use crate::laws::laws;
 use crate::schedule::Schedule;
-use crate::touching::names_of_all;
+use crate::touching::all_shown_channels;
 use ooo_channels::Bank;
 use ooo_code::{Cells, Design, Proc, SegmentEntry};
-use ooo_interp::{Ports, Room, Whole};
+use ooo_interp::Ports;
 use ooo_time::{Stamp, Time};
 use ooo_value::{BoundEvent, BoundVariable, Kind, Value};
 use sqlite_items::Items;
@@ -30,13 +32,13 @@ pub fn start(alloc: Global, design: &Design) -> Result<Engine, AllocError>
     let bank = Bank::make(alloc, design)?;
     let schedule = begin(alloc, design, &bank)?;
     let processes = first_processes(alloc, design.processes.as_slice())?;
-    let names = names_of_all(alloc, design)?;
-    let notices = all_notices(alloc, design)?;
+    let shown_channels = all_shown_channels(alloc, design)?;
+    let channel_events = all_channel_events(alloc, design)?;
     let variables = first_variables(alloc, design.variables.as_slice())?;
     let parts = Parts {
         processes,
-        names,
-        notices,
+        shown_channels,
+        channel_events,
         variables,
     };
     Ok(assemble(alloc, design, bank, schedule, parts))
@@ -46,8 +48,8 @@ pub fn start(alloc: Global, design: &Design) -> Result<Engine, AllocError>
 #[derive(Drop)]
 struct Parts {
     processes: Vec<Process>,
-    names: Vec<Vec<u32>>,
-    notices: Vec<Vec<u32>>,
+    shown_channels: Vec<Vec<u32>>,
+    channel_events: Vec<Vec<u32>>,
     variables: Vec<Cells>,
 }
 
@@ -57,9 +59,9 @@ fn assemble(alloc: Global, design: &Design, bank: Bank, schedule: Schedule, part
     requires begun { AreBegun design.now (length design.now.processes) schedule }
     requires bank { IsBankAfter bank (first_operations design.now) }
     requires processes { AreFirstProcesses design.now.processes parts.processes.items }
-    requires names { let lists = lists_of parts.names.items in
-        AreNamesOf design.now (length design.now.processes) lists }
-    requires notices { AreNotices design.now (lists_of parts.notices.items) }
+    requires shown { let lists = lists_of parts.shown_channels.items in
+        AreShownChannels design.now (length design.now.processes) lists }
+    requires channel_events { AreChannelEvents design.now (lists_of parts.channel_events.items) }
     requires variables { parts.variables.items ≡ first_cells design.now.variables }
     ensures { Starts design.now result }
 {
@@ -72,15 +74,11 @@ fn assemble(alloc: Global, design: &Design, bank: Bank, schedule: Schedule, part
         stamp,
         schedule,
         processes: parts.processes,
-        names: parts.names,
-        notices: parts.notices,
+        shown_channels: parts.shown_channels,
+        channel_events: parts.channel_events,
         bank,
-        parts: Whole {
-            slots: Vec::new(alloc),
-            variables: parts.variables,
-            ports: Ports::new(alloc),
-        },
-        room: Room::new(alloc),
+        variables: parts.variables,
+        ports: Ports::new(alloc),
         output: Vec::new(alloc),
         last: stamp,
         activations: 0,
@@ -98,7 +96,7 @@ fn begin(alloc: Global, design: &Design, bank: &Bank) -> Result<Schedule, AllocE
 {
     let processes = design.processes.as_slice();
     let mut schedule = Schedule::new(alloc, processes.len(), design.events.len())?;
-    'processes: for p in 0..processes.len() {
+    for p in 0..processes.len() {
         begin_one(alloc, design, bank, &mut schedule, p)?;
     }
     Ok(schedule)
@@ -125,12 +123,9 @@ fn begin_one(
         delta: 0,
     };
     if process.initialize {
-        schedule.agenda.set(p, Some(zero))?;
-        return Ok(());
+        return schedule.agenda.set(p, Some(zero));
     }
-    let events = process.sensitive.as_slice();
-    schedule.wait(alloc, p, events, None, bank, zero)?;
-    Ok(())
+    schedule.wait(alloc, p, process.sensitive.as_slice(), None, bank, zero)
 }
 
 // Each process at its start.
@@ -138,7 +133,7 @@ fn first_processes(alloc: Global, bound: &[Proc]) -> Result<Vec<Process>, AllocE
     ensures { IfOk result (λ made. AreFirstProcesses bound.now made.items) }
 {
     let mut made = Vec::new(alloc);
-    'processes: for process in bound {
+    for process in bound {
         made.push(Process {
             entry: SegmentEntry::Start,
             slots: zeros(alloc, process.slots.as_slice())?,
@@ -159,7 +154,7 @@ fn first_variables(alloc: Global, bound: &[BoundVariable]) -> Result<Vec<Cells>,
     ensures { IfOk result (λ made. made.items ≡ first_cells bound.now) }
 {
     let mut made = Vec::new(alloc);
-    'variables: for x in bound {
+    for x in bound {
         let cells = vec![in alloc; x.start; x.length as usize]?;
         made.push(Items::from_vec(cells))?;
     }
@@ -167,65 +162,62 @@ fn first_variables(alloc: Global, bound: &[BoundVariable]) -> Result<Vec<Cells>,
 }
 
 // Of each channel, the numbers of its events.
-fn all_notices(alloc: Global, design: &Design) -> Result<Vec<Vec<u32>>, AllocError>
+fn all_channel_events(alloc: Global, design: &Design) -> Result<Vec<Vec<u32>>, AllocError>
     requires sound { IsSound design.now }
     requires few { IsFew design.now }
-    ensures { IfOk result (λ notices. AreNotices design.now (lists_of notices.items)) }
+    ensures { IfOk result (λ lists. AreChannelEvents design.now (lists_of lists.items)) }
 {
-    let mut notices = no_notices(alloc, design.channels.len())?;
+    let mut channel_events = no_events(alloc, design.channels.len())?;
     let events = design.events.as_slice();
-    'events: for e in 0..events.len() {
-        add_notice(design, &mut notices, e, events[e])?;
+    for e in 0..events.len() {
+        add_event(design, &mut channel_events, e, events[e])?;
     }
-    Ok(notices)
+    Ok(channel_events)
 }
 
 // So many lists without elements.
-fn no_notices(alloc: Global, count: usize) -> Result<Vec<Vec<u32>>, AllocError>
+fn no_events(alloc: Global, count: usize) -> Result<Vec<Vec<u32>>, AllocError>
     ensures { IfOk result (λ lists. AreEmpty count lists.items) }
 {
     let mut lists = Vec::new(alloc);
-    'channels: for _channel in 0..count {
+    for _channel in 0..count {
         lists.push(Vec::new(alloc))?;
     }
     Ok(lists)
 }
 
 // An event stands in the list of its channel, if it is of one.
-fn add_notice(
+fn add_event(
     design: &Design,
-    notices: &mut Vec<Vec<u32>>,
+    channel_events: &mut Vec<Vec<u32>>,
     e: usize,
-    kind: BoundEvent,
+    event: BoundEvent,
 ) -> Result<(), AllocError>
     requires sound { IsSound design.now }
     requires few { IsFew design.now }
-    requires event { slice_get design.now.events e ≡ Some kind }
-    requires so_far { AreNoticesOf design.now e (lists_of notices.old.items) }
-    ensures { OnOk result (AreNoticesOf design.now (e + 1) (lists_of notices.new.items)) }
+    requires event { slice_get design.now.events e ≡ Some event }
+    requires so_far { AreFirstChannelEvents design.now e (lists_of channel_events.old.items) }
+    ensures { OnOk result (AreFirstChannelEvents design.now (e + 1)
+        (lists_of channel_events.new.items)) }
 {
-    match kind {
-        BoundEvent::Own => Ok(()),
-        BoundEvent::Changed(c) => {
-            add_to(notices, c, e as u32)?;
-            Ok(())
-        }
-        BoundEvent::Rise(c) => {
-            add_to(notices, c, e as u32)?;
-            Ok(())
-        }
-        BoundEvent::Fall(c) => {
-            add_to(notices, c, e as u32)?;
-            Ok(())
-        }
-        BoundEvent::Written(c) => {
-            add_to(notices, c, e as u32)?;
-            Ok(())
-        }
-        BoundEvent::Taken(c) => {
-            add_to(notices, c, e as u32)?;
-            Ok(())
-        }
+    match channel_of(event) {
+        Some(c) => add_to(channel_events, c, e as u32),
+        None => Ok(()),
+    }
+}
+
+// The channel of an event, if it is of one.
+fn channel_of(event: BoundEvent) -> Option<u32>
+    ensures { MatchOption result (event ≡ own.Own)
+        (λ c. (event ≢ own.Own) × (channel_of event ≡ c)) }
+{
+    match event {
+        BoundEvent::Own => None,
+        BoundEvent::Changed(c)
+        | BoundEvent::Rise(c)
+        | BoundEvent::Fall(c)
+        | BoundEvent::Written(c)
+        | BoundEvent::Taken(c) => Some(c),
     }
 }
 

@@ -4,7 +4,7 @@ ghost use Rattle.std.specs.Prelude.{◌≡◌, ◌++◌, List, length, IfOk, OnO
 ghost use Rattle.ooo_value.specs.declared.bound.BoundEvent.{BoundEvent as BoundEventSpec};
 ghost use Rattle.ooo_code.specs.Sound.{IsSound, FitsProcess};
 ghost use Rattle.ooo_code.specs.Touches.{touched_by, reads_of, index_reads, time_reads, wait_reads};
-ghost use Rattle.ooo_plain.specs.Engine.{AreNames, AreNamesOf};
+ghost use Rattle.ooo_plain.specs.Engine.{AreShownTo, AreShownChannels};
 ghost use Rattle.ooo_plain.specs.Schedule.{lists_of};
 ghost use Rattle.ooo_plain.specs.Shown.{one_of, shown_to, shown_to_nodes};
 
@@ -16,29 +16,29 @@ use std::alloc::{AllocError, Global};
 /// # Errors
 ///
 /// Only where memory runs out.
-pub fn names_of_all(alloc: Global, design: &Design) -> Result<Vec<Vec<u32>>, AllocError>
+pub fn all_shown_channels(alloc: Global, design: &Design) -> Result<Vec<Vec<u32>>, AllocError>
     requires { IsSound design.now }
-    ensures { IfOk result (λ names.
-        AreNamesOf design.now (length design.now.processes) (lists_of names.items)) }
+    ensures { IfOk result (λ lists.
+        AreShownChannels design.now (length design.now.processes) (lists_of lists.items)) }
 {
     let processes = design.processes.as_slice();
-    let mut names = Vec::new(alloc);
-    'processes: for p in 0..processes.len() {
-        names.push(names_of(alloc, design, &processes[p])?)?;
+    let mut lists = Vec::new(alloc);
+    for p in 0..processes.len() {
+        lists.push(shown_channels_of(alloc, design, &processes[p])?)?;
     }
-    Ok(names)
+    Ok(lists)
 }
 
 // The channels that a process's nodes are shown something of, ascending.
-fn names_of(alloc: Global, design: &Design, process: &Proc) -> Result<Vec<u32>, AllocError>
+fn shown_channels_of(alloc: Global, design: &Design, process: &Proc) -> Result<Vec<u32>, AllocError>
     requires { FitsProcess design.now process.now }
-    ensures { IfOk result (λ names. AreNames design.now process.now names.items) }
+    ensures { IfOk result (λ shown. AreShownTo design.now process.now shown.items) }
 {
     let nodes = &design.nodes.as_slice()[process.first as usize..process.end as usize];
-    let mut names = told_of(alloc, design.channels.len(), nodes)?;
-    names.sort_unstable();
-    names.dedup();
-    Ok(names)
+    let mut shown = told_of(alloc, design.channels.len(), nodes)?;
+    shown.sort_unstable();
+    shown.dedup();
+    Ok(shown)
 }
 
 // The channels, of so many, that these nodes are shown something of, each as often as it is named.
@@ -47,7 +47,7 @@ fn told_of(alloc: Global, count: usize, nodes: &[Node]) -> Result<Vec<u32>, Allo
         told.items ≡ shown_to_nodes count events nodes.now) }
 {
     let mut told = Vec::new(alloc);
-    'nodes: for node in nodes {
+    for node in nodes {
         tell_node(&mut told, count, &node.kind)?;
     }
     Ok(told)
@@ -126,26 +126,20 @@ fn tell_node(told: &mut Vec<u32>, count: usize, kind: &NodeKind) -> Result<(), A
         told.new.items ≡ told.old.items ++ shown_to count (touched_by events kind.now)) }
 {
     match kind {
-        NodeKind::Set(_, e) | NodeKind::Test(e, _) | NodeKind::PrintValue(e) => {
-            tell_reads(told, count, e)
-        }
-        NodeKind::Write(_, e) => {
-            tell_reads(told, count, e)?;
-            Ok(())
-        }
+        NodeKind::Set(_, e)
+        | NodeKind::Test(e, _)
+        | NodeKind::PrintValue(e)
+        | NodeKind::Write(_, e) => tell_reads(told, count, e),
         NodeKind::Store(_, i, e) => {
             tell_reads(told, count, e)?;
             tell_index(told, count, i)
         }
-        NodeKind::TestAvailable(c, _) | NodeKind::TestFree(c, _) => tell(told, count, *c),
-        NodeKind::Take(c, _) => {
-            tell(told, count, *c)?;
-            Ok(())
+        NodeKind::TestAvailable(c, _) | NodeKind::TestFree(c, _) | NodeKind::Take(c, _) => {
+            tell(told, count, *c)
         }
         NodeKind::Put(c, e) => {
             tell(told, count, *c)?;
-            tell_reads(told, count, e)?;
-            Ok(())
+            tell_reads(told, count, e)
         }
         NodeKind::Notify(_, time) => tell_time(told, count, time),
         NodeKind::Trigger(on) | NodeKind::Wait(on) => tell_wait(told, count, &on.time),

@@ -1,8 +1,8 @@
 //! What each form of expression gives.
 
-use super::{Code, MANY, add_port, binary, cells, fifo, int, ints, locals, printed};
+use super::{Code, MANY, Parts, add_fifo, add_port, binary, cells, int, ints, locals, printed};
 use ooo_code::{NodeExpr, NodeKind};
-use ooo_interp::{Port, Whole};
+use ooo_interp::Port;
 use ooo_value::{Kind, Op, Value};
 use sqlite_items::Boxed;
 use std::alloc::{AllocError, Global};
@@ -11,13 +11,13 @@ use std::test::Fail;
 
 /// A local of 8, a scalar of 5 and an array of 1, 2 and 3, a signal of 7, and a fifo of two values with three free
 /// slots.
-fn parts(rt: &impl Abort, alloc: Global) -> Result<Whole, AllocError> {
+fn parts(rt: &impl Abort, alloc: Global) -> Result<Parts, AllocError> {
     let mut parts = locals(alloc, &[8])?;
     parts.variables.push(cells(alloc, &[5])?)?;
     parts.variables.push(cells(alloc, &[1, 2, 3])?)?;
     add_port(rt, &mut parts, Port::Signal(0, Value::Int(7), false))?;
     let values = ints(alloc, &[4, 6])?;
-    add_port(rt, &mut parts, fifo(rt, 1, values, 3))?;
+    add_fifo(rt, &mut parts, 1, values, 3)?;
     Ok(parts)
 }
 

@@ -1,6 +1,6 @@
 //! Takes and puts behind a process's own.
 
-use super::{Code, MANY, add_port, are_ints, binary, fifo, int, ints, is_over, locals, printed};
+use super::{Code, MANY, add_fifo, are_ints, binary, int, ints, is_over, locals, printed};
 use ooo_code::{Effect, NodeExpr, NodeKind};
 use ooo_value::{Op, Value};
 use std::alloc::{AllocError, Global};
@@ -36,8 +36,8 @@ fn sees_its_own_takes_and_puts(rt: HostRuntime) -> Result<(), Fail> {
     let alloc = rt.alloc();
     let mut parts = locals(alloc, &[0, 0])?;
     let values = ints(alloc, &[4, 6])?;
-    add_port(&rt, &mut parts, fifo(&rt, 0, values, 0))?;
-    add_port(&rt, &mut parts, fifo(&rt, 1, Vec::new(alloc), 1))?;
+    add_fifo(&rt, &mut parts, 0, values, 0)?;
+    add_fifo(&rt, &mut parts, 1, Vec::new(alloc), 1)?;
     let ran = two_takes_and_a_put(alloc)?.run(&mut parts, MANY)?;
     assert!(rt; printed(&ran.output, "00"));
     assert!(rt; are_ints(&parts.slots, &[4, 6]));
@@ -75,7 +75,7 @@ fn a_put_fills_a_slot_for_the_next(rt: HostRuntime) -> Result<(), Fail> {
         (3, "more than two", 2),
     ] {
         let mut parts = locals(alloc, &[])?;
-        add_port(&rt, &mut parts, fifo(&rt, 0, Vec::new(alloc), free))?;
+        add_fifo(&rt, &mut parts, 0, Vec::new(alloc), free)?;
         let ran = two_puts(alloc)?.run(&mut parts, MANY)?;
         assert!(rt; printed(&ran.output, text));
         let puts = [Effect::Put(0, Value::Int(1)), Effect::Put(0, Value::Int(2))];
@@ -99,7 +99,7 @@ fn untested_take(alloc: Global) -> Result<Code, AllocError> {
 fn nothing_is_taken_of_an_empty_fifo(rt: HostRuntime) -> Result<(), Fail> {
     let alloc = rt.alloc();
     let mut parts = locals(alloc, &[3])?;
-    add_port(&rt, &mut parts, fifo(&rt, 0, Vec::new(alloc), 2))?;
+    add_fifo(&rt, &mut parts, 0, Vec::new(alloc), 2)?;
     let ran = untested_take(alloc)?.run(&mut parts, MANY)?;
     assert!(rt; printed(&ran.output, "3"));
     assert!(rt; ran.effects.is_empty());
@@ -123,7 +123,7 @@ fn a_full_fifo_of_the_greatest_size_is_read(rt: HostRuntime) -> Result<(), Fail>
     let alloc = rt.alloc();
     let values = (0..65_536u32).map(|n| Value::Uint(n)).collect(alloc)?;
     let mut parts = locals(alloc, &[0, 0])?;
-    add_port(&rt, &mut parts, fifo(&rt, 0, values, 0))?;
+    add_fifo(&rt, &mut parts, 0, values, 0)?;
     let ran = counting(alloc)?.run(&mut parts, 65_536)?;
     assert!(rt; is_over(&ran.end));
     assert!(rt; printed(&ran.output, "65535"));

@@ -5,7 +5,7 @@ use super::{
     start_from,
 };
 use ooo_code::{Design, Effect, NodeExpr, NodeKind, NodeTime, SegmentEntry};
-use ooo_interp::{Port, Ran, Room, run_process};
+use ooo_interp::{Emitted, Port, run_process};
 use ooo_time::{Scale, Time};
 use ooo_value::{Op, ProcessKind, Value};
 use sqlite_items::Boxed;
@@ -119,25 +119,18 @@ fn printing_and_stopping(alloc: Global) -> Result<Design, AllocError> {
     code.design(ProcessKind::Thread)
 }
 
-// What the room held is neither printed nor done again.
+// What was emitted before is neither printed nor done again.
 #[test]
-fn uses_a_room_again(rt: HostRuntime) -> Result<(), Fail> {
+fn forgets_what_was_emitted_before(rt: HostRuntime) -> Result<(), Fail> {
     let alloc = rt.alloc();
     let design = printing_and_stopping(alloc)?;
     let start = start_from(SegmentEntry::Start, MANY);
     let mut parts = locals(alloc, &[])?;
-    let mut room = Room::new(alloc);
+    let mut emitted = Emitted::new(alloc);
     for _ in 0..3 {
-        let ran = run_process(&mut parts, &design, start, room)?;
-        assert!(rt; printed(&ran.output, "x"));
-        assert_eq!(rt; ran.effects.as_slice(), [Effect::Stop].as_slice());
-        let Ran {
-            entry: _,
-            output,
-            effects,
-            end: _,
-        } = ran;
-        room = Room { output, effects };
+        run_process(&mut parts, &mut emitted, &design, start)?;
+        assert!(rt; printed(&emitted.output, "x"));
+        assert_eq!(rt; emitted.effects.as_slice(), [Effect::Stop].as_slice());
     }
     Ok(())
 }

@@ -91,9 +91,9 @@ fn a_job_that_fits_is_done(rt: HostRuntime) -> Result<(), Fail> {
     let done = run_segment(alloc, job)?;
     assert_eq!(rt; done.process, 0);
     assert_eq!(rt; done.activation, 7);
-    assert_eq!(rt; done.output.as_slice(), b"done".as_slice());
+    assert_eq!(rt; done.emitted.output.as_slice(), b"done".as_slice());
     assert!(rt; is_over(&done.end));
-    assert!(rt; done.effects.is_empty());
+    assert!(rt; done.emitted.effects.is_empty());
     assert_eq!(rt; done.frame.entry, SegmentEntry::Start);
     assert_eq!(rt; done.owned.len(), 1);
     let (number, cells) = &done.owned[0];

@@ -1,5 +1,7 @@
 use Rattle.std.proofs.Common.{subst}
+use Rattle.std.proofs.lemmas.Result.{IfOk-weaker}
 use Rattle.ooo_plain.specs.Cycles.{Cycles}
+use Rattle.ooo_plain.specs.Running.{ShowsOver, ShowsRun}
 use Rattle.ooo_plain.proofs.Reaching.{counts_below, reaches_next, is_over, shows_run}
 use Rattle.ooo_plain.proofs.run.run_on.Goals as goal
 
@@ -13,8 +15,8 @@ finish-requires c =
     (c.args.design.now, over.0, over.1)
 
 pub returns-in-Over : goal.returns-in-Over
-returns-in-Over c = shows_run c.args.design.now c.args.limits c.in-Over.end c.in-Over.at c.cycles.engine c.cycle.new.self _
-    (subst (λ t. Cycles c.args.design.now c.args.limits t c.cycles.engine c.cycle.new.self) c.in-Over.is c.in_ok-end.ensures) c.cycles.invariant c.in_ok-run-in-Over.ensures
+returns-in-Over c = IfOk-weaker c.finish.result (ShowsOver c.cycle.new.self c.in-Over.at c.in-Over.end) (ShowsRun c.args.design.now c.args.limits) (λ run shows. shows_run c.args.design.now c.args.limits c.in-Over.end c.in-Over.at c.cycles.engine c.cycle.new.self run
+    (subst (λ t. Cycles c.args.design.now c.args.limits t c.cycles.engine c.cycle.new.self) c.in-Over.is c.in_ok-end.ensures) c.cycles.invariant shows) c.finish.ensures
 
 pub cycles-preserved : goal.cycles-preserved
 cycles-preserved c = reaches_next c.args.design.now c.args.limits c.cycles.engine c.cycle.new.self

@@ -1,5 +1,9 @@
 use Rattle.std.proofs.Common.{◌∙◌, sym, ap}
+use Rattle.std.proofs.lemmas.Result.{IfOk-weaker}
 use Rattle.std.specs.List.{list_any}
+use Rattle.ooo_history.specs.declared.run.End.TheVariants as end
+use Rattle.ooo_meaning.specs.World.{zero_stamp}
+use Rattle.ooo_plain.specs.Running.{ShowsOver, ShowsRun}
 use Rattle.ooo_plain.proofs.First.{reaches_first, shows_idle}
 use Rattle.ooo_plain.proofs.run.run_plain.Goals as goal
 
@@ -8,5 +12,5 @@ run_on-requires-clause-reaches c = reaches_first c.args.design.now c.args.limits
     (sym (c.is_some_initialized.ensures ∙ ap (list_any (λ x. x.initialize)) c.as_slice.ensures) ∙ c.if-is_some_initialized.true)
 
 pub returns : goal.returns
-returns c = shows_idle c.laws.ensures c.args.design.now c.args.limits c.in_ok-engine.engine c.in_ok-engine.ensures
-    (sym (c.is_some_initialized.ensures ∙ ap (list_any (λ x. x.initialize)) c.as_slice.ensures) ∙ c.if-is_some_initialized.false) c.in_ok-run-2.run' c.in_ok-run-2.ensures
+returns c = IfOk-weaker c.finish.result (ShowsOver c.in_ok-engine.engine zero_stamp (end.Idle zero_stamp)) (ShowsRun c.args.design.now c.args.limits) (λ run shows. shows_idle c.laws.ensures c.args.design.now c.args.limits c.in_ok-engine.engine c.in_ok-engine.ensures
+    (sym (c.is_some_initialized.ensures ∙ ap (list_any (λ x. x.initialize)) c.as_slice.ensures) ∙ c.if-is_some_initialized.false) run shows) c.finish.ensures

@@ -2,5 +2,5 @@ use Rattle.std.specs.Prelude.{◌≡◌, take}
 use Rattle.ooo_plain.specs.Starting.{first_cells}
 use Rattle.ooo_plain.proofs.starting.first_variables.Given as goal
 
-abbrev pub invariant-variables : goal.invariant-variables
-invariant-variables l = l.made.items ≡ first_cells (take l.x-index l.bound)
+abbrev pub invariant-loop-x : goal.invariant-loop-x
+invariant-loop-x l = l.made.items ≡ first_cells (take l.x-index l.bound)

@@ -3,14 +3,14 @@ use Rattle.std.proofs.Common.{ℕ, ◌≡◌, ◌<◌, List, None, sym, ap, ◌�
 use Rattle.ooo_code.specs.Expressions.{Sight}
 use Rattle.ooo_value.specs.declared.values.Value.{Value}
 use Rattle.ooo_interp.specs.Carrying.{all_cells, listed, numbers_of}
-use Rattle.ooo_interp.specs.Ports.{all_shown}
+use Rattle.ooo_interp.specs.Ports.{all_shown, values_in}
 use Rattle.ooo_interp.proofs.Listed.{unlisted}
 use Rattle.ooo_interp.proofs.Placed.{not_listed, numbers_stay, set_copied, set_of, set_owned, set_past_all}
 use Rattle.ooo_interp.proofs.job_parts.JobPartsLent.set_cell.Goals as goal
 
 pub returns-then-variable-self-clause-sight : goal.returns-then-variable-self-clause-sight
 returns-then-variable-self-clause-sight c =
-    ap (λ (v : List (List Value)). let s : Sight = record { slots = c.args.self.now.slots; variables = v; seen = all_shown c.args.self.now.ports } in s)
+    ap (λ (v : List (List Value)). let s : Sight = record { slots = c.args.self.now.slots; variables = v; seen = all_shown (values_in c.args.self.now.fifos.seen.items) c.args.self.now.ports } in s)
     (sym (set_past_all c.args.self.now.count c.args.self.now.owned.items c.args.self.now.copied.items c.args.variable _ c.if-variable-self.true))
 
 pub returns-then-not-set_in-clause-sight : goal.returns-then-not-set_in-clause-sight
@@ -18,7 +18,7 @@ returns-then-not-set_in-clause-sight c =
     let none : listed c.args.self.now.owned.items c.args.variable ≡ None = not_listed _ c.if-not-set_in.ensures.found in
     let lt : c.args.variable < c.args.self.now.count = omega arith in
     let owned : c.set_in.new.carried.items ≡ c.args.self.now.owned.items = c.set_in.ensures.listed ∙ unlisted c.args.self.now.owned.items c.args.variable (set_of c.args.at c.args.v) none in
-    ap (λ (v : List (List Value)). let s : Sight = record { slots = c.args.self.now.slots; variables = v; seen = all_shown c.args.self.now.ports } in s)
+    ap (λ (v : List (List Value)). let s : Sight = record { slots = c.args.self.now.slots; variables = v; seen = all_shown (values_in c.args.self.now.fifos.seen.items) c.args.self.now.ports } in s)
     (ap (λ o. all_cells c.args.self.now.count o c.set_in-then-not-set_in.new.carried.items) owned
     ∙ ap (all_cells c.args.self.now.count c.args.self.now.owned.items) c.set_in-then-not-set_in.ensures.listed
     ∙ set_copied c.args.self.now.count c.args.self.now.owned.items c.args.self.now.copied.items c.args.variable c.args.at c.args.v lt none)
@@ -30,7 +30,7 @@ returns-then-not-set_in-clause-kept c =
 pub returns-else-not-set_in-clause-sight : goal.returns-else-not-set_in-clause-sight
 returns-else-not-set_in-clause-sight c =
     let lt : c.args.variable < c.args.self.now.count = omega arith in
-    ap (λ (v : List (List Value)). let s : Sight = record { slots = c.args.self.now.slots; variables = v; seen = all_shown c.args.self.now.ports } in s)
+    ap (λ (v : List (List Value)). let s : Sight = record { slots = c.args.self.now.slots; variables = v; seen = all_shown (values_in c.args.self.now.fifos.seen.items) c.args.self.now.ports } in s)
     (ap (λ o. all_cells c.args.self.now.count o c.args.self.now.copied.items) c.set_in.ensures.listed
     ∙ set_owned c.args.self.now.count c.args.self.now.owned.items c.args.self.now.copied.items c.args.variable c.args.at c.args.v lt (sym c.if-not-set_in.ensures.found))
 

@@ -11,11 +11,11 @@ pub invariant_of-self : goal.invariant_of-self
 invariant_of-self c = still_ascends channel_of c.self.inside.items.items c.in-Some.at c.index_mut.result.now c.put_of.new.port c.self.invariant c.index_mut.ensures.value c.put_of.ensures.channel
 
 pub returns-in-Some : goal.returns-in-Some
-returns-in-Some c =
+returns-in-Some c = λ values.
     let stands : StandsAt channel_of c.self.inside.items.items c.args.channel c.in-Some.at = rw c.deref.ensures.value at c.in-Some.ensures in
-    subst (λ ps. all_shown (slice_set c.self.inside.items.items c.in-Some.at c.put_of.new.port) ≡ seen_after_put (all_shown ps) c.args.channel) c.self.view_is (one_put c.args.channel c.in-Some.at c.index_mut.result.now c.put_of.new.port c.self.inside.items.items c.self.invariant stands c.index_mut.ensures.value c.put_of.ensures.shown)
+    subst (λ ps. all_shown values (slice_set c.self.inside.items.items c.in-Some.at c.put_of.new.port) ≡ seen_after_put (all_shown values ps) c.args.channel) c.self.view_is (one_put values c.args.channel c.in-Some.at c.index_mut.result.now c.put_of.new.port c.self.inside.items.items c.self.invariant stands c.index_mut.ensures.value (c.put_of.ensures.shown values))
 
 pub returns-in_default : goal.returns-in_default
-returns-in_default c =
+returns-in_default c = λ values.
     let none : All (λ p. channel_of p ≢ c.args.channel) c.self.inside.items.items = rw c.deref.ensures.value at c.in_default.ensures in
-    subst (λ ps. all_shown ps ≡ seen_after_put (all_shown ps) c.args.channel) c.self.view_is (none_put c.args.channel c.self.inside.items.items none)
+    subst (λ ps. all_shown values ps ≡ seen_after_put (all_shown values ps) c.args.channel) c.self.view_is (none_put values c.args.channel c.self.inside.items.items none)

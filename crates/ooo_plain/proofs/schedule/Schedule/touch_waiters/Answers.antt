@@ -15,17 +15,17 @@ first-first-requires c =
 pub refresh_knowing-requires-clause-first : goal.refresh_knowing-requires-clause-first
 refresh_knowing-requires-clause-first c = asked_alone c.args.bank.now c.args.now c.args.e c.first-first.result c.first-first.ensures
 
-pub waiters-preserved : goal.waiters-preserved
-waiters-preserved c =
-    let lt : c.waiters.i < length (waiting_on c.args.self.now c.args.e) = (let h = c.waiters-test.true in let e = c.waiters.invariant.end in omega (arith, h, e)) in
-    let read : c.index-q.result.now ≡ get_or (waiting_on c.args.self.now c.args.e) c.waiters.i 0 = read_in (λ v. v.items) c.args.self.now.waiters.items c.args.e c.waiters.i c.index-q.result.now c.index-in-waiters.result.now c.requires.event (c.index-in-waiters.ensures ∙ ap (λ x. get_or x.waiters.items c.args.e c.index-in-waiters.result.now) c.waiters.invariant.so_far.rest) lt c.index-q.ensures in
-    let known : get_or (waiting_on c.args.self.now c.args.e) c.waiters.i 0 < length c.args.self.now.held.items = c.requires.knows.within c.args.e c.waiters.i 0 lt in
-    let count = c.waiters.invariant.so_far.count in
+pub loop-i-preserved : goal.loop-i-preserved
+loop-i-preserved c =
+    let lt : c.loop-i.i < length (waiting_on c.args.self.now c.args.e) = (let h = c.loop-i-test.true in let e = c.loop-i.invariant.end in omega (arith, h, e)) in
+    let read : c.index-q.result.now ≡ get_or (waiting_on c.args.self.now c.args.e) c.loop-i.i 0 = read_in (λ v. v.items) c.args.self.now.waiters.items c.args.e c.loop-i.i c.index-q.result.now c.index-in-loop-i.result.now c.requires.event (c.index-in-loop-i.ensures ∙ ap (λ x. get_or x.waiters.items c.args.e c.index-in-loop-i.result.now) c.loop-i.invariant.so_far.rest) lt c.index-q.ensures in
+    let known : get_or (waiting_on c.args.self.now c.args.e) c.loop-i.i 0 < length c.args.self.now.awaited.items = c.requires.knows.within c.args.e c.loop-i.i 0 lt in
+    let count = c.loop-i.invariant.so_far.count in
     record {
-      end = c.waiters.invariant.end;
-      within = let h = c.waiters-test.true in omega (arith, h);
-      so_far = asked_again c.args.bank.now c.args.now c.args.e c.waiters.i c.index-q.result.now c.args.self.now c.waiters.self c.refresh_knowing.new.self c.waiters.invariant.so_far lt read (let k = c.requires.knows.count in omega (arith, known, read, count, k)) c.in_ok-refresh_knowing.ensures;
+      end = c.loop-i.invariant.end;
+      within = let h = c.loop-i-test.true in omega (arith, h);
+      so_far = asked_again c.args.bank.now c.args.now c.args.e c.loop-i.i c.index-q.result.now c.args.self.now c.loop-i.self c.refresh_knowing.new.self c.loop-i.invariant.so_far lt read (let k = c.requires.knows.count in omega (arith, known, read, count, k)) c.in_ok-refresh_knowing.ensures;
     }
 
 pub returns : goal.returns
-returns c = touched_all c.args.bank.now c.args.now c.args.e c.waiters.i c.args.self.now c.waiters.self c.requires.knows (let h = c.waiters-test.false in let e = c.waiters.invariant.end in omega (arith, h, e)) c.waiters.invariant.so_far
+returns c = touched_all c.args.bank.now c.args.now c.args.e c.loop-i.i c.args.self.now c.loop-i.self c.requires.knows (let h = c.loop-i-test.false in let e = c.loop-i.invariant.end in omega (arith, h, e)) c.loop-i.invariant.so_far

@@ -1,7 +1,0 @@
--- A time that isn't one is the node's fault.
-use Rattle.std.proofs.Common.{refl, sym}
-use Rattle.ooo_interp.proofs.Acted.{fault_halts}
-use Rattle.ooo_interp.proofs.notices.trigger.Goals as goal
-
-pub returns-in_err-time : goal.returns-in_err-time
-returns-in_err-time g c = λ r number line. fault_halts r line _ _ _ _ c.from_residual.ensures.1 (λ next. rw (sym c.in_err-time.ensures) refl)
