@@ -1,4 +1,4 @@
-use crate::site::Site;
+use crate::site::{Site, is_one_of};
 use ooo_lexer::Token;
 
 /// What a name is declared as, as far as its declaration's first word tells.
@@ -59,30 +59,40 @@ pub fn declared_in<'a>(
 
 // Whether what comes behind this token may be a declaration.
 fn begins_anew(text: &[u8]) -> bool {
-    matches!(text, b";" | b"{" | b"}" | b":" | b"(")
+    is_one_of(text, &[";", "{", "}", ":", "("])
 }
 
 // What a token is declared as that stands between these two, in what begins with that first one.
 fn sort_of(site: &Site<'_>, first: &Token, previous: &Token, next: &Token) -> Option<Sort> {
-    let is_behind = matches!(site.text(previous), b">" | b",") || previous.start == first.start;
+    let is_behind = is_one_of(site.text(previous), &[">", ","]) || previous.start == first.start;
     let is_typed = is_behind || is_type(site.text(previous));
     let next = site.text(next);
-    if !is_typed || !matches!(next, b";" | b"," | b"=" | b"(" | b"[" | b"{" | b")") {
+    if !is_typed || !is_one_of(next, &[";", ",", "=", "(", "[", "{", ")"]) {
         return None;
     }
-    match site.text(first) {
-        b"sc_in" | b"sc_in_clk" => Some(Sort::In),
-        b"sc_out" | b"sc_inout" => Some(Sort::Out),
-        b"sc_signal" => Some(Sort::Signal),
-        b"sc_clock" => Some(Sort::Clock),
-        b"sc_fifo_in" => Some(Sort::FifoIn),
-        b"sc_fifo_out" => Some(Sort::FifoOut),
-        b"sc_fifo" => Some(Sort::Fifo),
-        b"sc_event" => Some(Sort::Event),
-        text if is_type(text) => Some(of_type(next)),
-        _ => None,
+    let text = site.text(first);
+    if is_type(text) {
+        return Some(of_type(next));
     }
+    OPENINGS
+        .iter()
+        .find(|(word, _)| word.as_bytes() == text)
+        .map(|(_, sort)| *sort)
 }
+
+// The words that begin declarations, besides those of types, and what is declared behind them.
+static OPENINGS: &[(&str, Sort)] = &[
+    ("sc_in", Sort::In),
+    ("sc_in_clk", Sort::In),
+    ("sc_out", Sort::Out),
+    ("sc_inout", Sort::Out),
+    ("sc_signal", Sort::Signal),
+    ("sc_clock", Sort::Clock),
+    ("sc_fifo_in", Sort::FifoIn),
+    ("sc_fifo_out", Sort::FifoOut),
+    ("sc_fifo", Sort::Fifo),
+    ("sc_event", Sort::Event),
+];
 
 fn of_type(next: &[u8]) -> Sort {
     match next {
@@ -94,8 +104,7 @@ fn of_type(next: &[u8]) -> Sort {
 
 /// Whether a word begins a type of values, or `void` or `const`.
 pub fn is_type(text: &[u8]) -> bool {
-    matches!(
-        text,
-        b"bool" | b"int" | b"unsigned" | b"long" | b"void" | b"const" | b"static"
-    )
+    is_one_of(text, TYPES)
 }
+
+static TYPES: &[&str] = &["bool", "int", "unsigned", "long", "void", "const", "static"];

@@ -3,6 +3,14 @@ use crate::message::Message;
 use ooo_lexer::Position;
 use std::alloc::{AllocError, Global};
 
+/// When in a run something was: the time, and the delta cycle, as the report writes them.
+#[derive(Clone, Copy)]
+struct When<'a> {
+    amount: &'a str,
+    unit: &'a str,
+    delta: &'a str,
+}
+
 /// What ended a run before its time, by the last line of its report: a run fault, or a limit. Nothing is said of
 /// another ending.
 pub fn explain_ending(
@@ -11,37 +19,104 @@ pub fn explain_ending(
     line: &str,
 ) -> Result<Option<String>, AllocError> {
     let words: Vec<&str> = line.split(' ').collect(alloc)?;
-    let mut message = Message::new(alloc, source);
     match words.as_slice() {
         ["fault", name, amount, unit, delta, process, number] => {
-            let reason = fault_reason(name);
-            let what = format!(in alloc;
-                "{name} in process {process} at {amount} {unit}, delta cycle {delta}: {reason}"
-            )?;
-            message.error(begin_of_line(source, number), &what)?;
-            message.hint(fault_hint(name))?;
+            let when = When {
+                amount,
+                unit,
+                delta,
+            };
+            explain_fault(alloc, source, name, when, process, number)
         }
         ["statements", amount, unit, delta, process, number] => {
-            let what = format!(in alloc;
-                "process {process} has run as many statements without a wait as are allowed, \
-                at {amount} {unit}, delta cycle {delta}"
-            )?;
-            message.error(begin_of_line(source, number), &what)?;
-            message.hint(
-                "an endless loop of a thread has a 'wait' in it; '--statements N' allows more than 1000000",
-            )?;
+            let when = When {
+                amount,
+                unit,
+                delta,
+            };
+            explain_statements(alloc, source, when, process, number)
         }
         ["deltas", amount, unit, delta] => {
-            message.error_anywhere(&format!(in alloc;
-                "at {amount} {unit} there are as many delta cycles as are allowed, {delta}"
-            )?)?;
-            message.hint(
-                "processes may wake each other without end while no time goes by: let one of them wait for a time; \
-                '--deltas N' allows more than 10000",
-            )?;
+            let when = When {
+                amount,
+                unit,
+                delta,
+            };
+            explain_deltas(alloc, source, when)
         }
-        _ => return Ok(None),
+        _ => Ok(None),
     }
+}
+
+// A run fault of this name in a process, at the line of this number.
+fn explain_fault(
+    alloc: Global,
+    source: &[u8],
+    name: &str,
+    when: When<'_>,
+    process: &str,
+    number: &str,
+) -> Result<Option<String>, AllocError> {
+    let When {
+        amount,
+        unit,
+        delta,
+    } = when;
+    let reason = fault_reason(name);
+    let what = format!(in alloc;
+        "{name} in process {process} at {amount} {unit}, delta cycle {delta}: {reason}"
+    )?;
+    let mut message = Message::new(alloc, source);
+    message.error(begin_of_line(source, number), &what)?;
+    message.hint(fault_hint(name))?;
+    Ok(Some(message.into_text()))
+}
+
+// More statements of a process without a wait than are allowed, the last one at the line of this number.
+fn explain_statements(
+    alloc: Global,
+    source: &[u8],
+    when: When<'_>,
+    process: &str,
+    number: &str,
+) -> Result<Option<String>, AllocError> {
+    let When {
+        amount,
+        unit,
+        delta,
+    } = when;
+    let what = format!(in alloc;
+        "process {process} has run as many statements without a wait as are allowed, \
+        at {amount} {unit}, delta cycle {delta}"
+    )?;
+    let mut message = Message::new(alloc, source);
+    message.error(begin_of_line(source, number), &what)?;
+    message.hint(
+        "an endless loop of a thread has a 'wait' in it; '--statements N' allows more than 1000000",
+    )?;
+    Ok(Some(message.into_text()))
+}
+
+// More delta cycles at one time than are allowed.
+fn explain_deltas(
+    alloc: Global,
+    source: &[u8],
+    when: When<'_>,
+) -> Result<Option<String>, AllocError> {
+    let When {
+        amount,
+        unit,
+        delta,
+    } = when;
+    let what = format!(in alloc;
+        "at {amount} {unit} there are as many delta cycles as are allowed, {delta}"
+    )?;
+    let mut message = Message::new(alloc, source);
+    message.error_anywhere(&what)?;
+    message.hint(
+        "processes may wake each other without end while no time goes by: let one of them wait for a time; \
+        '--deltas N' allows more than 10000",
+    )?;
     Ok(Some(message.into_text()))
 }
 

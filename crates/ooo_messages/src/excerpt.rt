@@ -42,6 +42,12 @@ pub fn push_excerpt(
     column: u32,
 ) -> Result<(), AllocError> {
     let window = window_of(line, (column as usize).saturating_sub(1));
+    push_shown(alloc, text, window)?;
+    push_mark(alloc, text, window)
+}
+
+// Adds what is shown of a line.
+fn push_shown(alloc: Global, text: &mut String, window: Window<'_>) -> Result<(), AllocError> {
     if window.is_cut_before {
         text.push_str(CUT)?;
     }
@@ -50,7 +56,11 @@ pub fn push_excerpt(
     if window.is_cut_behind {
         text.push_str(CUT)?;
     }
-    text.push('\n')?;
+    text.push('\n')
+}
+
+// Adds the mark under the marked byte.
+fn push_mark(alloc: Global, text: &mut String, window: Window<'_>) -> Result<(), AllocError> {
     if window.is_cut_before {
         text.push_str("   ")?;
     }

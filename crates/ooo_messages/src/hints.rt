@@ -60,11 +60,29 @@ fn add_parser_hints(
     if breach == ParseBreach::TooDeep {
         return message.hint("give a part of it to a local, or to a function");
     }
-    if let Some((token, meant)) = misspelled(site) {
-        let word = named(alloc, site.text(token))?;
-        let what = format!(in alloc; "'{word}' is no word of the language: is '{meant}' meant?")?;
-        return message.note_at(place_of(token), &what);
+    match misspelled(site) {
+        Some((token, meant)) => {
+            add_spelling(alloc, message, place_of(token), site.text(token), meant)
+        }
+        None => add_expected(message, site),
     }
+}
+
+// Says which word of the language may be meant by one that is none.
+fn add_spelling(
+    alloc: Global,
+    message: &mut Message<'_>,
+    at: Position,
+    word: &[u8],
+    meant: &str,
+) -> Result<(), AllocError> {
+    let word = named(alloc, word)?;
+    let what = format!(in alloc; "'{word}' is no word of the language: is '{meant}' meant?")?;
+    message.note_at(at, &what)
+}
+
+// The way around where a token meets a shape of its place; else the end that is missing, or what may stand there.
+fn add_expected(message: &mut Message<'_>, site: &Site<'_>) -> Result<(), AllocError> {
     let place = site.place();
     if let Some(hint) = hint_of(parser_shapes(place), site) {
         return message.hint(hint);

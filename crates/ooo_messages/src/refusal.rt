@@ -64,10 +64,15 @@ pub struct Refusal<'a> {
 pub fn read_refusal(line: &str) -> Option<Refusal<'_>> {
     let (layer, named) = line.strip_prefix("refused ")?.split_once(' ')?;
     let (name, place) = named.split_once(' ')?;
-    let (line, behind) = place.strip_suffix("\n")?.split_once(':')?;
+    refusal_at(Breach::of(layer, name)?, place.strip_suffix("\n")?)
+}
+
+// What is refused for a breach, by what stands behind its name: the place, and the names that it is about.
+fn refusal_at(breach: Breach, place: &str) -> Option<Refusal<'_>> {
+    let (line, behind) = place.split_once(':')?;
     let (column, names) = behind.split_once(' ').unwrap_or((behind, ""));
     Some(Refusal {
-        breach: Breach::of(layer, name)?,
+        breach,
         at: Position {
             line: line.parse().ok()?,
             column: column.parse().ok()?,

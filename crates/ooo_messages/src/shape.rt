@@ -1,5 +1,5 @@
 use crate::declared::{Sort, is_type};
-use crate::site::Site;
+use crate::site::{Site, is_one_of};
 use ooo_lexer::{Token, TokenKind};
 
 /// Tokens around a refused one, and what to write instead.
@@ -55,34 +55,62 @@ pub fn hint_of(shapes: &[Shape], site: &Site<'_>) -> Option<&'static str> {
         .map(|shape| shape.hint)
 }
 
+/// What a part of a shape stands for.
+#[derive(Clone, Copy)]
+enum Meaning {
+    Any,
+    Kind(TokenKind),
+    Type,
+    Port,
+    Declared(&'static [Sort]),
+    Itself,
+}
+
+// The parts of shapes that stand for more than themselves.
+static PARTS: &[(&str, Meaning)] = &[
+    ("<any>", Meaning::Any),
+    ("<word>", Meaning::Kind(TokenKind::Word)),
+    ("<number>", Meaning::Kind(TokenKind::Number)),
+    ("<text>", Meaning::Kind(TokenKind::Text)),
+    ("<type>", Meaning::Type),
+    ("<port>", Meaning::Port),
+    ("<in>", Meaning::Declared(&[Sort::In])),
+    ("<out>", Meaning::Declared(&[Sort::Out])),
+    (
+        "<signal>",
+        Meaning::Declared(&[Sort::In, Sort::Out, Sort::Signal, Sort::Clock]),
+    ),
+    (
+        "<fifo>",
+        Meaning::Declared(&[Sort::FifoIn, Sort::FifoOut, Sort::Fifo]),
+    ),
+    ("<fifo_in>", Meaning::Declared(&[Sort::FifoIn])),
+    ("<fifo_out>", Meaning::Declared(&[Sort::FifoOut])),
+    ("<event>", Meaning::Declared(&[Sort::Event])),
+    ("<array>", Meaning::Declared(&[Sort::Array])),
+    ("<variable>", Meaning::Declared(&[Sort::Variable])),
+    ("<function>", Meaning::Declared(&[Sort::Function])),
+];
+
+static PORTS: &[&str] = &["sc_in", "sc_out", "sc_inout", "sc_fifo_in", "sc_fifo_out"];
+
+fn meaning_of(part: &str) -> Meaning {
+    PARTS
+        .iter()
+        .find(|(name, _)| *name == part)
+        .map_or(Meaning::Itself, |(_, meaning)| *meaning)
+}
+
 // Whether a token is what a part of a shape stands for.
 fn is_like(site: &Site<'_>, part: &str, token: &Token) -> bool {
     let text = site.text(token);
-    match part {
-        "<any>" => true,
-        "<word>" => token.kind == TokenKind::Word,
-        "<number>" => token.kind == TokenKind::Number,
-        "<text>" => token.kind == TokenKind::Text,
-        "<type>" => is_type(text),
-        "<port>" => matches!(
-            text,
-            b"sc_in" | b"sc_out" | b"sc_inout" | b"sc_fifo_in" | b"sc_fifo_out"
-        ),
-        "<in>" => is_declared(site, text, &[Sort::In]),
-        "<out>" => is_declared(site, text, &[Sort::Out]),
-        "<signal>" => is_declared(
-            site,
-            text,
-            &[Sort::In, Sort::Out, Sort::Signal, Sort::Clock],
-        ),
-        "<fifo>" => is_declared(site, text, &[Sort::FifoIn, Sort::FifoOut, Sort::Fifo]),
-        "<fifo_in>" => is_declared(site, text, &[Sort::FifoIn]),
-        "<fifo_out>" => is_declared(site, text, &[Sort::FifoOut]),
-        "<event>" => is_declared(site, text, &[Sort::Event]),
-        "<array>" => is_declared(site, text, &[Sort::Array]),
-        "<variable>" => is_declared(site, text, &[Sort::Variable]),
-        "<function>" => is_declared(site, text, &[Sort::Function]),
-        _ => part.as_bytes() == text,
+    match meaning_of(part) {
+        Meaning::Any => true,
+        Meaning::Kind(kind) => token.kind == kind,
+        Meaning::Type => is_type(text),
+        Meaning::Port => is_one_of(text, PORTS),
+        Meaning::Declared(sorts) => is_declared(site, text, sorts),
+        Meaning::Itself => part.as_bytes() == text,
     }
 }
 

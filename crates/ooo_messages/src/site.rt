@@ -101,7 +101,7 @@ impl<'a> Site<'a> {
     }
 
     fn begins_part(&self, token: &Token) -> bool {
-        matches!(self.text(token), b"SC_MODULE" | b"sc_main")
+        is_one_of(self.text(token), &["SC_MODULE", "sc_main"])
     }
 
     /// How a name is declared in the module around the refused token, or in `sc_main`.
@@ -188,19 +188,10 @@ impl Walk {
                 ..self
             },
             b"}" => self.closed(self.depth.saturating_sub(1)),
-            b"sc_main" => Walk {
-                owner: Owner::Main,
+            _ => Walk {
+                owner: owner_begun(text).unwrap_or(self.owner),
                 ..self
             },
-            b"SC_MODULE" => Walk {
-                owner: Owner::Module,
-                ..self
-            },
-            b"SC_CTOR" | b"sc_module_name" => Walk {
-                owner: Owner::Constructor,
-                ..self
-            },
-            _ => self,
         }
     }
 
@@ -222,6 +213,24 @@ impl Walk {
             Owner::Module | Owner::Constructor => Place::Members,
         }
     }
+}
+
+// Whose braces come behind this word, where it tells.
+fn owner_begun(text: &[u8]) -> Option<Owner> {
+    if is_one_of(text, &["sc_main"]) {
+        Some(Owner::Main)
+    } else if is_one_of(text, &["SC_MODULE"]) {
+        Some(Owner::Module)
+    } else if is_one_of(text, &["SC_CTOR", "sc_module_name"]) {
+        Some(Owner::Constructor)
+    } else {
+        None
+    }
+}
+
+/// Whether a text is one of these words.
+pub fn is_one_of(text: &[u8], words: &[&str]) -> bool {
+    words.iter().any(|word| word.as_bytes() == text)
 }
 
 /// Whether a token is a word.
