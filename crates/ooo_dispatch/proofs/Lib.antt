@@ -45,3 +45,4 @@ pub mod Allowed
 pub mod Leads
 pub mod Schedules
 pub mod Worked
+pub mod Goes

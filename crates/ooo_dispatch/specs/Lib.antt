@@ -7,3 +7,4 @@ pub mod Least
 pub mod Steps
 pub mod Schedules
 pub mod Worked
+pub mod Goes

@@ -29,6 +29,7 @@ ghost use Rattle.ooo_code.specs.declared.limits.Limits.{Limits as LimitsSpec};
 ghost use Rattle.ooo_tables.specs.declared.tables.Tables.{Tables as TablesSpec};
 ghost use Rattle.ooo_tables.specs.Tables.{AreTables};
 ghost use Rattle.ooo_dispatch.specs.declared.step.Step.{Step as StepSpec};
+ghost use Rattle.ooo_dispatch.specs.Goes.{ComesToEnd};
 ghost use Rattle.ooo_dispatch.specs.Least.{MayRun, rules_of};
 ghost use Rattle.ooo_dispatch.specs.Worked.{WorkedSchedule};
 ghost use Rattle.ooo_dispatch.specs.Schedules.{Always, CommitsPutBack, CommitsWalk, CutStays, IsReady};
@@ -197,6 +198,17 @@ pub fn no_dead_end()
 {
     tables_are_sound();
     every_schedule();
+}
+
+/// Every lawful list of steps in which no job was abandoned goes on to one after which the board is over.
+pub fn every_list_ends()
+    ensures { (design : DesignSpec) (limits : LimitsSpec) (t : TablesSpec) →
+        IsReady design limits t → Always design limits t ComesToEnd }
+{
+    tables_are_sound();
+    processes_start();
+    every_schedule();
+    ooo_schedules::law::every_board::<Reads>();
 }
 
 /// Of the activations before its place, a segment reads those that it may see; what they make of all that it touches is

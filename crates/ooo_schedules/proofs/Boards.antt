@@ -5,7 +5,7 @@ use Rattle.ooo_time.specs.declared.stamp.Stamp.{Stamp}
 use Rattle.ooo_time.specs.declared.time.Time.{Time}
 use Rattle.ooo_time.specs.Stamps.{IsBefore, is_before, stamp_after}
 use Rattle.ooo_meaning.specs.World.{zero_stamp}
-use Rattle.ooo_schedules.specs.Model.{Front, front_at, In, count, last, Model, Log, Laws, Ordered, State, Allowed, Lawful, empty, dispatch, commit, committed, Dispatched, Sequential, Kept, IsOver, IsLeast, front_of, job}
+use Rattle.ooo_schedules.specs.Model.{Front, Open, front_at, In, count, last, Model, Log, Laws, Ordered, State, Allowed, Lawful, empty, dispatch, commit, committed, Dispatched, Sequential, Kept, IsOver, IsLeast, front_of, job}
 use Rattle.ooo_schedules.specs.Design.{Design, DesignLaws, model, slot, sort}
 use Rattle.ooo_schedules.specs.Program.{Program, ActIn, Sound, calls_of, design, wait_by}
 use Rattle.ooo_schedules.specs.Sequence.{Starts}
@@ -18,7 +18,7 @@ use Rattle.ooo_schedules.proofs.Over.{LeastBelow, a_front, always_within, least_
 use Rattle.ooo_schedules.proofs.Fronts.{Ends, FrontOf, by_event, by_time, front_ends, front_of as front_of_log}
 use Rattle.ooo_schedules.proofs.Slots.{call_source, least_source}
 use Rattle.ooo_schedules.proofs.Sorts.{sort_in}
-use Rattle.ooo_schedules.proofs.Reaches.{irreflexive, transitive}
+use Rattle.ooo_schedules.proofs.Reaches.{compare, irreflexive, transitive}
 use Rattle.ooo_schedules.proofs.Programs.{channel_source, design_laws, is_no, is_own, is_yes, left_is, own_source, program_laws, time_out_is}
 
 -- ---- stamps below a limit, counted
@@ -167,10 +167,41 @@ module _ (p : Program) (h : Sound p) (starts : Starts p) where
           let k : w.0.number ≡ n = w.3 in
           omega (arith, e, low, bound, k)
 
-  -- ---- it isn't stuck
+  -- ---- it is over, or its front of least place is below the cut
 
-  pub never_stuck : (st : State M) → Lawful M st → st.out ≡ [] → IsOver M st ⊎ ((q : ℕ) × (f : Front Stamp) × Allowed M st q f)
-  never_stuck st l quiet = at (least_below M L st.log M.processes)
+  -- an activation cuts a place off, or not
+  cut_or_not : (y : ActIn p) (u : Stamp) (q : ℕ) → M.Cuts y u q ⊎ (M.Cuts y u q → ⊥)
+  cut_or_not y u q = at (p.breaks y) (p.stops y) refl refl (compare y.stamp u) (less_or q y.process)
+    where
+      at : (b s : Bool) → p.breaks y ≡ b → p.stops y ≡ s → IsBefore y.stamp u ⊎ ((y.stamp ≡ u) ⊎ IsBefore u y.stamp) → (q < y.process) ⊎ (y.process ≤ q) → M.Cuts y u q ⊎ (M.Cuts y u q → ⊥)
+      at true s b k (inl lt) n = inl (inl (b, inl lt))
+      at true s b k (inr (inl e)) (inr le) = inl (inl (b, inr (e, le)))
+      at true s b k (inr (inl e)) (inl lt) = inr (λ c. ⊎_elim (λ h. ⊎_elim (λ x. irreflexive u (subst (λ t. IsBefore t u) e x)) (λ x. let le = x.1 in omega (arith, le, lt)) h.1) (λ h. irreflexive u (subst (λ t. IsBefore t u) e h.1)) c)
+      at true s b k (inr (inr gt)) n = inr (λ c. ⊎_elim (λ h. ⊎_elim (λ x. irreflexive u (transitive u y.stamp u gt x)) (λ x. irreflexive u (subst (IsBefore u) x.0 gt)) h.1) (λ h. irreflexive u (transitive u y.stamp u gt h.1)) c)
+      at false true b k (inl lt) n = inl (inr (k, lt))
+      at false true b k (inr (inl e)) n = inr (λ c. ⊎_elim (λ h. let f : true ≡ false = sym h.0 ∙ b in cc) (λ h. irreflexive u (subst (λ t. IsBefore t u) e h.1)) c)
+      at false true b k (inr (inr gt)) n = inr (λ c. ⊎_elim (λ h. let f : true ≡ false = sym h.0 ∙ b in cc) (λ h. irreflexive u (transitive u y.stamp u gt h.1)) c)
+      at false false b k n l = inr (λ c. ⊎_elim (λ h. let f : true ≡ false = sym h.0 ∙ b in cc) (λ h. let f : true ≡ false = sym h.0 ∙ k in cc) c)
+
+  some_cut : (xs : Log M) (u : Stamp) (q : ℕ) → ((y : ActIn p) × In y xs × M.Cuts y u q) ⊎ ((y : ActIn p) → In y xs → M.Cuts y u q → ⊥)
+  some_cut [] u q = inr (λ y i c. i)
+  some_cut (x ∷ xs) u q =
+      ⊎_elim (λ c. inl (x, inl refl, c))
+      (λ n. ⊎_elim (λ f. inl (f.0, inr f.1, f.2)) (λ h. inr (λ y i c. ⊎_elim (λ e. n (subst (λ z. M.Cuts z u q) e c)) (λ j. h y j c) i)) (some_cut xs u q))
+      (cut_or_not x u q)
+
+  -- the front of least place, with what holds where it is below the cut
+  pub record OpenLeast (st : State M) : Type 0 where
+    pub process : ℕ
+    pub front : Front Stamp
+    pub is : front_of M st process ≡ Some front
+    pub least : IsLeast M st process front
+    pub uncut : Open M st.log front.stamp process
+    pub below : front.stamp.delta < p.limit
+    pub numbered : process < p.processes
+
+  pub over_or_open : (st : State M) → Lawful M st → st.out ≡ [] → IsOver M st ⊎ OpenLeast st
+  over_or_open st l quiet = at (least_below M L st.log M.processes)
     where
       g : Good M st
       g = good M L st l
@@ -178,26 +209,36 @@ module _ (p : Program) (h : Sound p) (starts : Starts p) where
       front_is : (q : ℕ) → front_of M st q ≡ M.front st.log q
       front_is q = front_of_idle M L st q (ap (last q) quiet)
 
-      at : LeastBelow M L st.log M.processes → IsOver M st ⊎ ((q : ℕ) × (f : Front Stamp) × Allowed M st q f)
+      at : LeastBelow M L st.log M.processes → IsOver M st ⊎ OpenLeast st
       at (no_front n) = inl (record { quiet = quiet; shut = λ q f e least o. let k = sym (front_is q) ∙ e in n q f (L.numbered st.log q f g.ordered k) k })
       at (a_front a f e b all) =
-          ⊎_elim (λ late. inl (shut (λ within. omega (arith, late, within))))
-          (λ within. ⊎_elim (λ limit. inl (at_limit limit)) (λ low. inr (a, f, no_dead_end M L st g a f quiet (front_is a ∙ e) least within low)) (same_or_not f.stamp.delta p.limit))
+          ⊎_elim (λ late. inl (shut (λ o. let within = o.within in omega (arith, late, within))))
+          (λ within.
+          ⊎_elim (λ limit. inl (shut (λ o. o.below limit)))
+          (λ low.
+          ⊎_elim (λ c. inl (shut (λ o. o.uncut c.0 c.1 c.2)))
+          (λ n. inr (record { process = a; front = f; is = front_is a ∙ e; least = least; uncut = record { within = within; below = low; uncut = n }; below = allowed_below st a f (allowed within low) (λ y i. below_limit st l y (inl i)); numbered = b }))
+          (some_cut st.log f.stamp a))
+          (same_or_not f.stamp.delta p.limit))
           (less_or p.stop.0 f.stamp.time.0)
         where
           least : IsLeast M st a f
           least r c n k = let i = sym (front_is r) ∙ k in all r c (L.numbered st.log r c g.ordered i) n i
 
-          same : (q : ℕ) (c : Front Stamp) → front_of M st q ≡ Some c → IsLeast M st q c → c ≡ f
-          same q c k l =
-              ⊎_elim (λ s. some_is c f (sym k ∙ ap (front_of M st) s ∙ front_is a ∙ e))
-              (λ n. absurd (not_both_earlier M L.order f.stamp a c.stamp q (least q c n k) (l a f (λ s. n (sym s)) (front_is a ∙ e)))) (same_or_not q a)
+          allowed : f.stamp.time.0 ≤ p.stop.0 → (f.stamp.delta ≡ p.limit → ⊥) → Allowed M st a f
+          allowed within low = no_dead_end M L st g a f quiet (front_is a ∙ e) least within low
 
-          shut : (f.stamp.time.0 ≤ p.stop.0 → ⊥) → IsOver M st
-          shut n = record { quiet = quiet; shut = λ q c k l o. n (subst (λ t. t.stamp.time.0 ≤ p.stop.0) (same q c k l) o.within) }
+          shut : (Open M st.log f.stamp a → ⊥) → IsOver M st
+          shut n = record { quiet = quiet; shut = λ q c k l o. same q c k l o (same_or_not q a) }
+            where
+              same : (q : ℕ) (c : Front Stamp) → front_of M st q ≡ Some c → IsLeast M st q c → Open M st.log c.stamp q → (q ≡ a) ⊎ (q ≡ a → ⊥) → ⊥
+              same q c k l o (inl s) = n (subst (λ t. Open M st.log t a) (ap (λ t. t.stamp) (some_is c f (sym k ∙ ap (front_of M st) s ∙ front_is a ∙ e))) (subst (Open M st.log c.stamp) s o))
+              same q c k l o (inr s) = not_both_earlier M L.order f.stamp a c.stamp q (least q c s k) (l a f (λ t. s (sym t)) (front_is a ∙ e))
 
-          at_limit : f.stamp.delta ≡ p.limit → IsOver M st
-          at_limit n = record { quiet = quiet; shut = λ q c k l o. o.below (ap (λ t. t.stamp.delta) (same q c k l) ∙ n) }
+  -- so it isn't stuck
+  pub never_stuck : (st : State M) → Lawful M st → st.out ≡ [] → IsOver M st ⊎ ((q : ℕ) × (f : Front Stamp) × Allowed M st q f)
+  never_stuck st l quiet =
+      ⊎_elim (λ o. inl o) (λ o. inr (o.process, o.front, no_dead_end M L st (good M L st l) o.process o.front quiet o.is o.least o.uncut.within o.uncut.below)) (over_or_open st l quiet)
 
   -- ---- the sequential run is a lawful one
 
