@@ -59,6 +59,9 @@ fn scope_after<'a, 't>(
     let Some((token, others)) = tokens.split_first() else {
         return None;
     };
+    if !is_library(symbol.terminal) {
+        return None;
+    }
     let scope = source.single(token);
     if is_pair(symbol, scope) {
         Some((scope, others))

@@ -128,11 +128,7 @@ impl Names {
         self.text.reserve(name.len())?;
         self.declared.reserve(1)?;
         let place = self.declared.len();
-        let hides = places::place(&self.places, name);
-        match hides {
-            Some(_) => places::replace(&mut self.places, name, place),
-            None => places::add(&mut self.places, self.alloc, name, place)?,
-        }
+        let hides = places::put(&mut self.places, self.alloc, name, place)?;
         let from = self.text.len();
         self.text.extend_from_slice(name)?;
         self.declared.push(Declared {

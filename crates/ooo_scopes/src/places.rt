@@ -1,4 +1,4 @@
-ghost use Rattle.std.specs.Prelude.{◌≡◌, Some, None, IsSome, OnOk, OnErr};
+ghost use Rattle.std.specs.Prelude.{◌≡◌, Some, None, IfOk, IsSome, OnOk, OnErr};
 ghost use Rattle.ooo_scopes.specs.Places.{place_of, HasPlace, HasSamePlaces};
 
 use std::alloc::{AllocError, Global};
@@ -14,19 +14,20 @@ pub(crate) fn place(places: &Places, name: &[u8]) -> Option<usize>
     places.get(name).copied()
 }
 
-/// Gives a name its first place.
-pub(crate) fn add(
+/// Gives a name a place, and says the one that it had.
+pub(crate) fn put(
     places: &mut Places,
     alloc: Global,
     name: &[u8],
     place: usize,
-) -> Result<(), AllocError>
+) -> Result<Option<usize>, AllocError>
+    ensures had { IfOk result (λ had. had ≡ place_of places.old name.now) }
     ensures ok { OnOk result (HasPlace places.old places.new name.now (Some place)) }
     ensures err { OnErr result (HasSamePlaces places.old places.new) }
 {
     let key = Vec::from_slice(alloc, name)?;
-    let _ = places.insert(key, place)?;
-    Ok(())
+    let had = places.insert(key, place)?;
+    Ok(had)
 }
 
 /// Gives a name that has a place another one.
