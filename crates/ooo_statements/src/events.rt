@@ -5,6 +5,7 @@ ghost use Rattle.ooo_grammar.specs.Gives.{Gives, reads_at};
 ghost use Rattle.ooo_statements.specs.Loops.{next_item};
 ghost use Rattle.ooo_statements.specs.Spelled.{event_of};
 
+use crate::lists::{begun, with};
 use crate::statements::followed;
 use ooo_grammar::{Limits, Read, one, read_member_word, read_word, starts};
 use ooo_syntax::{BinaryOp, Event, Expr, Symbol, Terminal, Word};
@@ -17,9 +18,9 @@ use std::alloc::{AllocError, Global};
 fn read_event_call<'a>(alloc: Global, tokens: &'a [Symbol<'a>], limits: Limits) -> Read<'a, Word>
     ensures { Gives (reads_at limits event_call tokens.now) result }
 {
-    let (_, rest) = one(tokens, Terminal::Dot, limits)?;
-    let (member, rest) = read_member_word(alloc, rest, limits)?;
-    let (member, rest) = followed(member, Terminal::Open, rest, limits)?;
+    let (_, rest) = got!(one(tokens, Terminal::Dot, limits));
+    let (member, rest) = got!(read_member_word(alloc, rest, limits));
+    let (member, rest) = got!(followed(member, Terminal::Open, rest, limits));
     followed(member, Terminal::Close, rest, limits)
 }
 
@@ -28,7 +29,7 @@ fn read_event_call<'a>(alloc: Global, tokens: &'a [Symbol<'a>], limits: Limits) 
 pub fn read_event<'a>(alloc: Global, tokens: &'a [Symbol<'a>], limits: Limits) -> Read<'a, Event>
     ensures { Gives (reads_at limits event tokens.now) result }
 {
-    let (name, rest) = read_word(alloc, tokens, limits)?;
+    let (name, rest) = got!(read_word(alloc, tokens, limits));
     if !starts(rest, Terminal::Dot) {
         return Ok((Event { name, call: None }, rest));
     }
@@ -46,7 +47,7 @@ pub fn read_event<'a>(alloc: Global, tokens: &'a [Symbol<'a>], limits: Limits) -
 #[tactic(auto, using(ooo_grammar::specs::Steps::steps))]
 fn read_next_event<'a>(
     alloc: Global,
-    mut list: Items<Event>,
+    list: Items<Event>,
     tokens: &'a [Symbol<'a>],
     limits: Limits,
 ) -> Read<'a, Items<Event>>
@@ -54,8 +55,7 @@ fn read_next_event<'a>(
 {
     let (_, rest) = keeping!(list; one(tokens, Terminal::Or, limits));
     let (more, rest) = keeping!(list; read_event(alloc, rest, limits));
-    list.push(more)?;
-    Ok((list, rest))
+    Ok((with(list, more)?, rest))
 }
 
 // Events and `|` between them.
@@ -67,14 +67,13 @@ fn read_events<'a>(
 ) -> Read<'a, Items<Event>>
     ensures { Gives (reads_at limits events tokens.now) result }
 {
-    let (first, mut rest) = read_event(alloc, tokens, limits)?;
-    let mut list = Items::new(alloc);
-    list.push(first)?;
+    let (first, mut rest) = got!(read_event(alloc, tokens, limits));
+    let mut list = begun(alloc, first)?;
     'turns: for _turn in 0..rest.len() {
         if !starts(rest, Terminal::Or) {
             return Ok((list, rest));
         }
-        let (more, after) = read_next_event(alloc, list, rest, limits)?;
+        let (more, after) = got!(read_next_event(alloc, list, rest, limits));
         list = more;
         rest = after;
     }
@@ -132,12 +131,23 @@ fn spelled_event(alloc: Global, expr: &Expr) -> Result<Option<Event>, AllocError
     }
 }
 
-fn alone(alloc: Global, first: Event) -> Result<Items<Event>, AllocError>
-    ensures { IfOk result (λ list. list ≡ first ∷ []) }
+fn named_alone(alloc: Global, name: &Word) -> Result<Option<Items<Event>>, AllocError>
+    ensures { IfOk result (λ o. o ≡ Some (record { name = name.now; call = None } ∷ [])) }
 {
-    let mut list = Items::new(alloc);
-    list.push(first)?;
-    Ok(list)
+    let event = named_event(alloc, name)?;
+    Ok(Some(begun(alloc, event)?))
+}
+
+fn called_alone(
+    alloc: Global,
+    name: &Word,
+    member: &Word,
+) -> Result<Option<Items<Event>>, AllocError>
+    ensures { IfOk result
+        (λ o. o ≡ Some (record { name = name.now; call = Some member.now } ∷ [])) }
+{
+    let event = called_event(alloc, name, member)?;
+    Ok(Some(begun(alloc, event)?))
 }
 
 fn join(list: Option<Items<Event>>, last: Option<Event>) -> Result<Option<Items<Event>>, AllocError>
@@ -149,8 +159,7 @@ fn join(list: Option<Items<Event>>, last: Option<Event>) -> Result<Option<Items<
     let Some(last) = last else {
         return Ok(None);
     };
-    list.push(last)?;
-    Ok(Some(list))
+    Ok(Some(with(list, last)?))
 }
 
 // The events that an expression spells, if it has their form.
@@ -159,17 +168,11 @@ pub(crate) fn spelled_events(alloc: Global, expr: &Expr) -> Result<Option<Items<
     ensures { IfOk result (λ o. o ≡ events_of expr.now) }
 {
     match expr {
-        Expr::Name(name) => {
-            let event = named_event(alloc, name)?;
-            Ok(Some(alone(alloc, event)?))
-        }
-        Expr::Member(name, member, None) => {
-            let event = called_event(alloc, name, member)?;
-            Ok(Some(alone(alloc, event)?))
-        }
+        Expr::Name(name) => named_alone(alloc, name),
+        Expr::Member(name, member, None) => called_alone(alloc, name, member),
         Expr::Binary(BinaryOp::Or, left, right) => {
             let list = spelled_events(alloc, left.get())?;
-            let last = spelled_event(alloc, right.get())?;
+            let last = keeping!(list; spelled_event(alloc, right.get()));
             join(list, last)
         }
         _ => Ok(None),

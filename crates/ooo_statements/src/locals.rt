@@ -4,6 +4,7 @@ ghost use Rattle.ooo_grammar.specs.Statements.{declarator, local};
 ghost use Rattle.ooo_grammar.specs.Gives.{Gives, reads_at};
 ghost use Rattle.ooo_statements.specs.Loops.{next_item};
 
+use crate::lists::{begun, with};
 use ooo_exprs::read_value;
 use ooo_grammar::{Limits, Read, one, read_type, read_word, starts};
 use ooo_syntax::{Declarator, Local, Symbol, Terminal};
@@ -19,7 +20,7 @@ fn read_declarator<'a>(
 ) -> Read<'a, Declarator>
     ensures { Gives (reads_at limits declarator tokens.now) result }
 {
-    let (name, rest) = read_word(alloc, tokens, limits)?;
+    let (name, rest) = got!(read_word(alloc, tokens, limits));
     if !starts(rest, Terminal::Assign) {
         return Ok((Declarator { name, value: None }, rest));
     }
@@ -38,7 +39,7 @@ fn read_declarator<'a>(
 #[tactic(auto, using(ooo_grammar::specs::Steps::steps))]
 fn read_next_declarator<'a>(
     alloc: Global,
-    mut list: Items<Declarator>,
+    list: Items<Declarator>,
     tokens: &'a [Symbol<'a>],
     limits: Limits,
 ) -> Read<'a, Items<Declarator>>
@@ -46,8 +47,7 @@ fn read_next_declarator<'a>(
 {
     let (_, rest) = keeping!(list; one(tokens, Terminal::Comma, limits));
     let (more, rest) = keeping!(list; read_declarator(alloc, rest, limits));
-    list.push(more)?;
-    Ok((list, rest))
+    Ok((with(list, more)?, rest))
 }
 
 // Names and commas between them.
@@ -59,14 +59,13 @@ fn read_declarators<'a>(
 ) -> Read<'a, Items<Declarator>>
     ensures { Gives (reads_at limits (separated Terminal.Comma declarator refl) tokens.now) result }
 {
-    let (first, mut rest) = read_declarator(alloc, tokens, limits)?;
-    let mut list = Items::new(alloc);
-    list.push(first)?;
+    let (first, mut rest) = got!(read_declarator(alloc, tokens, limits));
+    let mut list = begun(alloc, first)?;
     'turns: for _turn in 0..rest.len() {
         if !starts(rest, Terminal::Comma) {
             return Ok((list, rest));
         }
-        let (more, after) = read_next_declarator(alloc, list, rest, limits)?;
+        let (more, after) = got!(read_next_declarator(alloc, list, rest, limits));
         list = more;
         rest = after;
     }
@@ -82,7 +81,7 @@ pub(crate) fn read_local<'a>(
 ) -> Read<'a, Local>
     ensures { Gives (reads_at limits local tokens.now) result }
 {
-    let (form, rest) = read_type(tokens, limits)?;
-    let (names, rest) = read_declarators(alloc, rest, limits)?;
+    let (form, rest) = got!(read_type(tokens, limits));
+    let (names, rest) = got!(read_declarators(alloc, rest, limits));
     Ok((Local { form, names }, rest))
 }

@@ -4,6 +4,7 @@ ghost use Rattle.ooo_grammar.specs.Statements.{item, print};
 ghost use Rattle.ooo_grammar.specs.Gives.{Gives, reads_at};
 ghost use Rattle.ooo_statements.specs.Loops.{next_item};
 
+use crate::lists::{begun, with};
 use crate::statements::followed;
 use ooo_exprs::read_sum;
 use ooo_grammar::{Limits, Read, one, read_text, starts};
@@ -21,16 +22,16 @@ fn read_print_item<'a>(
     ensures { Gives (reads_at limits item tokens.now) result }
 {
     if starts(tokens, Terminal::Text) {
-        let (text, rest) = read_text(alloc, tokens, limits)?;
+        let (text, rest) = got!(read_text(alloc, tokens, limits));
         return Ok((PrintItem::Text(text), rest));
     }
     if starts(tokens, Terminal::Endl) {
-        let (head, rest) = one(tokens, Terminal::Endl, limits)?;
+        let (head, rest) = got!(one(tokens, Terminal::Endl, limits));
         return Ok((PrintItem::Line(head.position), rest));
     }
     if starts(tokens, Terminal::ScTimeStamp) {
-        let (head, rest) = one(tokens, Terminal::ScTimeStamp, limits)?;
-        let (_, rest) = one(rest, Terminal::Open, limits)?;
+        let (head, rest) = got!(one(tokens, Terminal::ScTimeStamp, limits));
+        let (_, rest) = got!(one(rest, Terminal::Open, limits));
         return followed(
             PrintItem::TimeStamp(head.position),
             Terminal::Close,
@@ -38,7 +39,7 @@ fn read_print_item<'a>(
             limits,
         );
     }
-    let (value, rest) = read_sum(alloc, tokens, limits)?;
+    let (value, rest) = got!(read_sum(alloc, tokens, limits));
     Ok((PrintItem::Value(value), rest))
 }
 
@@ -46,7 +47,7 @@ fn read_print_item<'a>(
 #[tactic(auto, using(ooo_grammar::specs::Steps::steps))]
 fn read_next_item<'a>(
     alloc: Global,
-    mut list: Items<PrintItem>,
+    list: Items<PrintItem>,
     tokens: &'a [Symbol<'a>],
     limits: Limits,
 ) -> Read<'a, Items<PrintItem>>
@@ -54,8 +55,7 @@ fn read_next_item<'a>(
 {
     let (_, rest) = keeping!(list; one(tokens, Terminal::ShiftLeft, limits));
     let (more, rest) = keeping!(list; read_print_item(alloc, rest, limits));
-    list.push(more)?;
-    Ok((list, rest))
+    Ok((with(list, more)?, rest))
 }
 
 // Items and `<<` between them.
@@ -67,14 +67,13 @@ fn read_items<'a>(
 ) -> Read<'a, Items<PrintItem>>
     ensures { Gives (reads_at limits (separated Terminal.ShiftLeft item refl) tokens.now) result }
 {
-    let (first, mut rest) = read_print_item(alloc, tokens, limits)?;
-    let mut list = Items::new(alloc);
-    list.push(first)?;
+    let (first, mut rest) = got!(read_print_item(alloc, tokens, limits));
+    let mut list = begun(alloc, first)?;
     'turns: for _turn in 0..rest.len() {
         if !starts(rest, Terminal::ShiftLeft) {
             return Ok((list, rest));
         }
-        let (more, after) = read_next_item(alloc, list, rest, limits)?;
+        let (more, after) = got!(read_next_item(alloc, list, rest, limits));
         list = more;
         rest = after;
     }
@@ -90,8 +89,8 @@ pub(crate) fn read_print<'a>(
 ) -> Read<'a, Simple>
     ensures { Gives (reads_at limits print tokens.now) result }
 {
-    let (head, rest) = one(tokens, Terminal::Cout, limits)?;
-    let (_, rest) = one(rest, Terminal::ShiftLeft, limits)?;
-    let (list, rest) = read_items(alloc, rest, limits)?;
+    let (head, rest) = got!(one(tokens, Terminal::Cout, limits));
+    let (_, rest) = got!(one(rest, Terminal::ShiftLeft, limits));
+    let (list, rest) = got!(read_items(alloc, rest, limits));
     Ok((Simple::Print(head.position, list), rest))
 }

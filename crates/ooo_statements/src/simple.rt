@@ -8,6 +8,7 @@ ghost use Rattle.ooo_grammar.specs.Gives.{Gives, reads_at};
 ghost use Rattle.ooo_statements.specs.Loops.{next_inside};
 ghost use Rattle.ooo_statements.specs.Parts.{cancel_call, member_call, next_trigger_call, notify_call, step_before, stop_call, wait_call};
 
+use crate::lists::{begun, with};
 use crate::prints::read_print;
 use crate::signs::assign_of;
 use crate::statements::followed;
@@ -71,8 +72,8 @@ fn read_time_in_parens<'a>(
 ) -> Read<'a, TimeForm>
     ensures { Gives (reads_at limits (in_parens (deeper timed) refl) tokens.now) result }
 {
-    let (_, rest) = one(tokens, Terminal::Open, limits)?;
-    let (time, rest) = read_timed_inside(alloc, rest, limits)?;
+    let (_, rest) = got!(one(tokens, Terminal::Open, limits));
+    let (time, rest) = got!(read_timed_inside(alloc, rest, limits));
     followed(time, Terminal::Close, rest, limits)
 }
 
@@ -85,11 +86,11 @@ fn read_option_in_parens<'a>(
 ) -> Read<'a, Option<Expr>>
     ensures { Gives (reads_at limits (in_parens (optional inner_value) refl) tokens.now) result }
 {
-    let (_, rest) = one(tokens, Terminal::Open, limits)?;
+    let (_, rest) = got!(one(tokens, Terminal::Open, limits));
     if !begins_with_expression(rest) {
         return followed(None, Terminal::Close, rest, limits);
     }
-    let (value, rest) = read_inner_value(alloc, rest, limits)?;
+    let (value, rest) = got!(read_inner_value(alloc, rest, limits));
     followed(Some(value), Terminal::Close, rest, limits)
 }
 
@@ -161,7 +162,7 @@ fn read_after_dot<'a>(
 #[tactic(auto, using(ooo_grammar::specs::Steps::steps))]
 fn read_next_argument<'a>(
     alloc: Global,
-    mut list: Items<Expr>,
+    list: Items<Expr>,
     tokens: &'a [Symbol<'a>],
     limits: Limits,
 ) -> Read<'a, Items<Expr>>
@@ -169,8 +170,7 @@ fn read_next_argument<'a>(
 {
     let (_, rest) = keeping!(list; one_inside(tokens, Terminal::Comma, limits));
     let (more, rest) = keeping!(list; read_inner_value(alloc, rest, limits));
-    list.push(more)?;
-    Ok((list, rest))
+    Ok((with(list, more)?, rest))
 }
 
 // Arguments and commas between them.
@@ -183,14 +183,13 @@ fn read_some_arguments<'a>(
     ensures { Gives (reads_at limits
         (separated_inside Terminal.Comma inner_value refl) tokens.now) result }
 {
-    let (first, mut rest) = read_inner_value(alloc, tokens, limits)?;
-    let mut list = Items::new(alloc);
-    list.push(first)?;
+    let (first, mut rest) = got!(read_inner_value(alloc, tokens, limits));
+    let mut list = begun(alloc, first)?;
     'turns: for _turn in 0..rest.len() {
         if !starts(rest, Terminal::Comma) {
             return Ok((list, rest));
         }
-        let (more, after) = read_next_argument(alloc, list, rest, limits)?;
+        let (more, after) = got!(read_next_argument(alloc, list, rest, limits));
         list = more;
         rest = after;
     }
@@ -206,11 +205,11 @@ fn read_arguments<'a>(
 ) -> Read<'a, Items<Expr>>
     ensures { Gives (reads_at limits call_arguments tokens.now) result }
 {
-    let (_, rest) = one(tokens, Terminal::Open, limits)?;
+    let (_, rest) = got!(one(tokens, Terminal::Open, limits));
     if !begins_with_expression(rest) {
         return followed(Items::new(alloc), Terminal::Close, rest, limits);
     }
-    let (list, rest) = read_some_arguments(alloc, rest, limits)?;
+    let (list, rest) = got!(read_some_arguments(alloc, rest, limits));
     followed(list, Terminal::Close, rest, limits)
 }
 
@@ -219,8 +218,8 @@ fn read_arguments<'a>(
 fn read_index<'a>(alloc: Global, tokens: &'a [Symbol<'a>], limits: Limits) -> Read<'a, Expr>
     ensures { Gives (reads_at limits (in_brackets inner_value refl) tokens.now) result }
 {
-    let (_, rest) = one(tokens, Terminal::OpenBracket, limits)?;
-    let (at, rest) = read_inner_value(alloc, rest, limits)?;
+    let (_, rest) = got!(one(tokens, Terminal::OpenBracket, limits));
+    let (at, rest) = got!(read_inner_value(alloc, rest, limits));
     followed(at, Terminal::CloseBracket, rest, limits)
 }
 
@@ -255,7 +254,7 @@ fn read_after_first_word<'a>(
 fn read_target<'a>(alloc: Global, tokens: &'a [Symbol<'a>], limits: Limits) -> Read<'a, Target>
     ensures { Gives (reads_at limits target tokens.now) result }
 {
-    let (name, rest) = read_word(alloc, tokens, limits)?;
+    let (name, rest) = got!(read_word(alloc, tokens, limits));
     if !starts(rest, Terminal::OpenBracket) {
         return Ok((Target { name, index: None }, rest));
     }
@@ -275,8 +274,8 @@ fn read_step_before<'a>(
 ) -> Read<'a, Simple>
     ensures { Gives (reads_at limits (step_before sign op) tokens.now) result }
 {
-    let (head, rest) = one(tokens, sign, limits)?;
-    let (to, rest) = read_target(alloc, rest, limits)?;
+    let (head, rest) = got!(one(tokens, sign, limits));
+    let (to, rest) = got!(read_target(alloc, rest, limits));
     Ok((Simple::StepBefore(head.position, op, to), rest))
 }
 
@@ -285,8 +284,8 @@ fn read_step_before<'a>(
 fn read_wait<'a>(alloc: Global, tokens: &'a [Symbol<'a>], limits: Limits) -> Read<'a, Simple>
     ensures { Gives (reads_at limits wait_call tokens.now) result }
 {
-    let (head, rest) = one(tokens, Terminal::Wait, limits)?;
-    let (awaited, rest) = read_awaiting(alloc, rest, limits)?;
+    let (head, rest) = got!(one(tokens, Terminal::Wait, limits));
+    let (awaited, rest) = got!(read_awaiting(alloc, rest, limits));
     Ok((Simple::Wait(head.position, awaited), rest))
 }
 
@@ -299,8 +298,8 @@ fn read_next_trigger<'a>(
 ) -> Read<'a, Simple>
     ensures { Gives (reads_at limits next_trigger_call tokens.now) result }
 {
-    let (head, rest) = one(tokens, Terminal::NextTrigger, limits)?;
-    let (awaited, rest) = read_awaiting(alloc, rest, limits)?;
+    let (head, rest) = got!(one(tokens, Terminal::NextTrigger, limits));
+    let (awaited, rest) = got!(read_awaiting(alloc, rest, limits));
     Ok((Simple::NextTrigger(head.position, awaited), rest))
 }
 
@@ -309,8 +308,8 @@ fn read_next_trigger<'a>(
 fn read_stop<'a>(tokens: &'a [Symbol<'a>], limits: Limits) -> Read<'a, Simple>
     ensures { Gives (reads_at limits stop_call tokens.now) result }
 {
-    let (head, rest) = one(tokens, Terminal::ScStop, limits)?;
-    let (_, rest) = one(rest, Terminal::Open, limits)?;
+    let (head, rest) = got!(one(tokens, Terminal::ScStop, limits));
+    let (_, rest) = got!(one(rest, Terminal::Open, limits));
     followed(Simple::Stop(head.position), Terminal::Close, rest, limits)
 }
 
@@ -324,7 +323,7 @@ pub(crate) fn read_simple<'a>(
     ensures { Gives (reads_at limits simple tokens.now) result }
 {
     if begins_with_word(tokens) {
-        let (name, rest) = read_word(alloc, tokens, limits)?;
+        let (name, rest) = got!(read_word(alloc, tokens, limits));
         return read_after_first_word(alloc, name, rest, limits);
     }
     if starts(tokens, Terminal::PlusPlus) {

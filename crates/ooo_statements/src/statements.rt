@@ -8,6 +8,7 @@ ghost use Rattle.ooo_statements.specs.Loops.{next_stat};
 ghost use Rattle.ooo_statements.specs.Parts.{closed_do, closed_step, ended_start, ended_value, opened_start};
 
 use crate::keeping::discard;
+use crate::lists::with;
 use crate::locals::read_local;
 use crate::signs::{begins_with_for_start, begins_with_simple, begins_with_statement};
 use crate::simple::read_simple;
@@ -28,7 +29,7 @@ pub fn followed<'a, T: Drop>(
 ) -> Read<'a, T>
     ensures { Gives (reads_at limits (to (λ _. found) (quoted terminal)) tokens.now) result }
 {
-    let (_, rest) = one(tokens, terminal, limits)?;
+    let (_, rest) = keeping!(found; one(tokens, terminal, limits));
     Ok((found, rest))
 }
 
@@ -61,7 +62,7 @@ fn read_boxed_local<'a>(
 ) -> Read<'a, Boxed<Local>>
     ensures { Gives (reads_at limits local tokens.now) result }
 {
-    let (locals, rest) = read_local(alloc, tokens, limits)?;
+    let (locals, rest) = got!(read_local(alloc, tokens, limits));
     Ok((boxed_local(alloc, locals)?, rest))
 }
 
@@ -74,7 +75,7 @@ fn read_boxed_simple<'a>(
 ) -> Read<'a, Boxed<Simple>>
     ensures { Gives (reads_at limits simple tokens.now) result }
 {
-    let (found, rest) = read_simple(alloc, tokens, limits)?;
+    let (found, rest) = got!(read_simple(alloc, tokens, limits));
     Ok((boxed_simple(alloc, found)?, rest))
 }
 
@@ -83,8 +84,8 @@ fn read_boxed_simple<'a>(
 fn read_parens<'a>(alloc: Global, tokens: &'a [Symbol<'a>], limits: Limits) -> Read<'a, Boxed<Expr>>
     ensures { Gives (reads_at limits parens tokens.now) result }
 {
-    let (_, rest) = one(tokens, Terminal::Open, limits)?;
-    let (test, rest) = read_boxed_inner_value(alloc, rest, limits)?;
+    let (_, rest) = got!(one(tokens, Terminal::Open, limits));
+    let (test, rest) = got!(read_boxed_inner_value(alloc, rest, limits));
     followed(test, Terminal::Close, rest, limits)
 }
 
@@ -121,7 +122,7 @@ fn is_open(of: &Stat) -> bool
 fn read_empty<'a>(tokens: &'a [Symbol<'a>], limits: Limits) -> Read<'a, Stat>
     ensures { Gives (reads_at limits empty_stat tokens.now) result }
 {
-    let (head, rest) = one(tokens, Terminal::Semicolon, limits)?;
+    let (head, rest) = got!(one(tokens, Terminal::Semicolon, limits));
     Ok((Stat::Empty(head.position), rest))
 }
 
@@ -130,8 +131,8 @@ fn read_empty<'a>(tokens: &'a [Symbol<'a>], limits: Limits) -> Read<'a, Stat>
 fn read_break<'a>(tokens: &'a [Symbol<'a>], limits: Limits) -> Read<'a, Stat>
     ensures { Gives (reads_at limits break_stat tokens.now) result }
 {
-    let (head, rest) = one(tokens, Terminal::Break, limits)?;
-    let (_, rest) = one(rest, Terminal::Semicolon, limits)?;
+    let (head, rest) = got!(one(tokens, Terminal::Break, limits));
+    let (_, rest) = got!(one(rest, Terminal::Semicolon, limits));
     Ok((Stat::Break(head.position), rest))
 }
 
@@ -140,8 +141,8 @@ fn read_break<'a>(tokens: &'a [Symbol<'a>], limits: Limits) -> Read<'a, Stat>
 fn read_continue<'a>(tokens: &'a [Symbol<'a>], limits: Limits) -> Read<'a, Stat>
     ensures { Gives (reads_at limits continue_stat tokens.now) result }
 {
-    let (head, rest) = one(tokens, Terminal::Continue, limits)?;
-    let (_, rest) = one(rest, Terminal::Semicolon, limits)?;
+    let (head, rest) = got!(one(tokens, Terminal::Continue, limits));
+    let (_, rest) = got!(one(rest, Terminal::Semicolon, limits));
     Ok((Stat::Continue(head.position), rest))
 }
 
@@ -157,7 +158,7 @@ fn read_ended_value<'a>(
     if !begins_with_expression(tokens) {
         return followed(None, Terminal::Semicolon, tokens, limits);
     }
-    let (found, rest) = read_boxed_value(alloc, tokens, limits)?;
+    let (found, rest) = got!(read_boxed_value(alloc, tokens, limits));
     followed(Some(found), Terminal::Semicolon, rest, limits)
 }
 
@@ -166,8 +167,8 @@ fn read_ended_value<'a>(
 fn read_return<'a>(alloc: Global, tokens: &'a [Symbol<'a>], limits: Limits) -> Read<'a, Stat>
     ensures { Gives (reads_at limits return_stat tokens.now) result }
 {
-    let (head, rest) = one(tokens, Terminal::Return, limits)?;
-    let (found, rest) = read_ended_value(alloc, rest, limits)?;
+    let (head, rest) = got!(one(tokens, Terminal::Return, limits));
+    let (found, rest) = got!(read_ended_value(alloc, rest, limits));
     Ok((Stat::Return(head.position, found), rest))
 }
 
@@ -176,8 +177,8 @@ fn read_return<'a>(alloc: Global, tokens: &'a [Symbol<'a>], limits: Limits) -> R
 fn read_local_stat<'a>(alloc: Global, tokens: &'a [Symbol<'a>], limits: Limits) -> Read<'a, Stat>
     ensures { Gives (reads_at limits local_stat tokens.now) result }
 {
-    let (locals, rest) = read_boxed_local(alloc, tokens, limits)?;
-    let (locals, rest) = followed(locals, Terminal::Semicolon, rest, limits)?;
+    let (locals, rest) = got!(read_boxed_local(alloc, tokens, limits));
+    let (locals, rest) = got!(followed(locals, Terminal::Semicolon, rest, limits));
     Ok((Stat::Local(locals), rest))
 }
 
@@ -186,8 +187,8 @@ fn read_local_stat<'a>(alloc: Global, tokens: &'a [Symbol<'a>], limits: Limits) 
 fn read_simple_stat<'a>(alloc: Global, tokens: &'a [Symbol<'a>], limits: Limits) -> Read<'a, Stat>
     ensures { Gives (reads_at limits simple_stat tokens.now) result }
 {
-    let (found, rest) = read_boxed_simple(alloc, tokens, limits)?;
-    let (found, rest) = followed(found, Terminal::Semicolon, rest, limits)?;
+    let (found, rest) = got!(read_boxed_simple(alloc, tokens, limits));
+    let (found, rest) = got!(followed(found, Terminal::Semicolon, rest, limits));
     Ok((Stat::Simple(found), rest))
 }
 
@@ -199,10 +200,10 @@ fn read_for_start<'a>(alloc: Global, tokens: &'a [Symbol<'a>], limits: Limits) -
     ensures { Gives (reads_at limits for_start tokens.now) result }
 {
     if begins_with_type(tokens) {
-        let (locals, rest) = read_local(alloc, tokens, limits)?;
+        let (locals, rest) = got!(read_local(alloc, tokens, limits));
         return Ok((ForStart::Local(locals), rest));
     }
-    let (found, rest) = read_simple(alloc, tokens, limits)?;
+    let (found, rest) = got!(read_simple(alloc, tokens, limits));
     Ok((ForStart::Simple(found), rest))
 }
 
@@ -215,7 +216,7 @@ fn read_boxed_for_start<'a>(
 ) -> Read<'a, Boxed<ForStart>>
     ensures { Gives (reads_at limits for_start tokens.now) result }
 {
-    let (found, rest) = read_for_start(alloc, tokens, limits)?;
+    let (found, rest) = got!(read_for_start(alloc, tokens, limits));
     Ok((boxed_start(alloc, found)?, rest))
 }
 
@@ -229,10 +230,10 @@ fn read_ended_start<'a>(
     ensures { Gives (reads_at limits ended_start tokens.now) result }
 {
     if !begins_with_for_start(tokens) {
-        let (_, rest) = one(tokens, Terminal::Semicolon, limits)?;
+        let (_, rest) = got!(one(tokens, Terminal::Semicolon, limits));
         return Ok((None, rest));
     }
-    let (found, rest) = read_boxed_for_start(alloc, tokens, limits)?;
+    let (found, rest) = got!(read_boxed_for_start(alloc, tokens, limits));
     followed(Some(found), Terminal::Semicolon, rest, limits)
 }
 
@@ -257,7 +258,7 @@ fn read_opened_start<'a>(
 ) -> Read<'a, Option<Boxed<ForStart>>>
     ensures { Gives (reads_at limits opened_start tokens.now) result }
 {
-    let (_, rest) = one(tokens, Terminal::Open, limits)?;
+    let (_, rest) = got!(one(tokens, Terminal::Open, limits));
     read_ended_start_inside(alloc, rest, limits)
 }
 
@@ -309,7 +310,7 @@ fn read_optional_simple<'a>(
     if !begins_with_simple(tokens) {
         return Ok((None, tokens));
     }
-    let (found, rest) = read_boxed_simple(alloc, tokens, limits)?;
+    let (found, rest) = got!(read_boxed_simple(alloc, tokens, limits));
     Ok((Some(found), rest))
 }
 
@@ -334,7 +335,7 @@ fn read_closed_step<'a>(
 ) -> Read<'a, Option<Boxed<Simple>>>
     ensures { Gives (reads_at limits closed_step tokens.now) result }
 {
-    let (found, rest) = read_optional_simple_inside(alloc, tokens, limits)?;
+    let (found, rest) = got!(read_optional_simple_inside(alloc, tokens, limits));
     followed(found, Terminal::Close, rest, limits)
 }
 
@@ -422,14 +423,13 @@ fn alone(alloc: Global, one: Stat) -> Result<Items<Stat>, AllocError>
 }
 
 // A list with one more statement.
-fn with(alloc: Global, mut list: Items<Stat>, more: Stat) -> Result<Items<Stat>, AllocError>
+fn with_stat(alloc: Global, list: Items<Stat>, more: Stat) -> Result<Items<Stat>, AllocError>
     ensures { IfOk result (λ all. all ≡ list ++ more ∷ []) }
 {
     if list.is_empty() {
         return alone(alloc, more);
     }
-    keeping!(list; list.push(more));
-    Ok(list)
+    with(list, more)
 }
 
 // One more statement.
@@ -444,7 +444,7 @@ fn read_next_stat<'a>(
     ensures { Gives (next_stat limits list tokens.now) result }
 {
     let (more, rest) = keeping!(list; read_inner_stat(alloc, tokens, limits));
-    Ok((with(alloc, list, more)?, rest))
+    Ok((with_stat(alloc, list, more)?, rest))
 }
 
 // No statement yet.
@@ -478,9 +478,9 @@ fn read_stats<'a>(alloc: Global, tokens: &'a [Symbol<'a>], limits: Limits) -> Re
 fn read_block<'a>(alloc: Global, tokens: &'a [Symbol<'a>], limits: Limits) -> Read<'a, Stat>
     ensures { Gives (reads_at limits block_stat tokens.now) result }
 {
-    let (head, rest) = one(tokens, Terminal::OpenBrace, limits)?;
-    let (list, rest) = read_stats(alloc, rest, limits)?;
-    let (list, rest) = followed(list, Terminal::CloseBrace, rest, limits)?;
+    let (head, rest) = got!(one(tokens, Terminal::OpenBrace, limits));
+    let (list, rest) = got!(read_stats(alloc, rest, limits));
+    let (list, rest) = got!(followed(list, Terminal::CloseBrace, rest, limits));
     Ok((Stat::Block(head.position, list), rest))
 }
 
@@ -490,7 +490,7 @@ fn read_block<'a>(alloc: Global, tokens: &'a [Symbol<'a>], limits: Limits) -> Re
 fn read_other<'a>(alloc: Global, tokens: &'a [Symbol<'a>], limits: Limits) -> Read<'a, Stat>
     ensures { Gives (reads_at limits other_stat tokens.now) result }
 {
-    let (_, rest) = one_inside(tokens, Terminal::Else, limits)?;
+    let (_, rest) = got!(one_inside(tokens, Terminal::Else, limits));
     read_inner_stat(alloc, rest, limits)
 }
 
@@ -507,7 +507,7 @@ fn read_maybe_other<'a>(
     if !starts(tokens, Terminal::Else) {
         return Ok((None, tokens));
     }
-    let (other, rest) = read_other(alloc, tokens, limits)?;
+    let (other, rest) = got!(read_other(alloc, tokens, limits));
     Ok((Some(boxed(alloc, other)?), rest))
 }
 
@@ -565,8 +565,8 @@ fn read_after_condition<'a>(
 fn read_if<'a>(alloc: Global, tokens: &'a [Symbol<'a>], limits: Limits) -> Read<'a, Stat>
     ensures { Gives (reads_at limits if_stat tokens.now) result }
 {
-    let (head, rest) = one(tokens, Terminal::If, limits)?;
-    let (test, rest) = read_condition(alloc, rest, limits)?;
+    let (head, rest) = got!(one(tokens, Terminal::If, limits));
+    let (test, rest) = got!(read_condition(alloc, rest, limits));
     read_after_condition(alloc, head.position, test, rest, limits)
 }
 
@@ -599,8 +599,8 @@ fn read_after_while<'a>(
 fn read_while<'a>(alloc: Global, tokens: &'a [Symbol<'a>], limits: Limits) -> Read<'a, Stat>
     ensures { Gives (reads_at limits while_stat tokens.now) result }
 {
-    let (head, rest) = one(tokens, Terminal::While, limits)?;
-    let (test, rest) = read_condition(alloc, rest, limits)?;
+    let (head, rest) = got!(one(tokens, Terminal::While, limits));
+    let (test, rest) = got!(read_condition(alloc, rest, limits));
     read_after_while(alloc, head.position, test, rest, limits)
 }
 
@@ -610,8 +610,8 @@ fn read_while<'a>(alloc: Global, tokens: &'a [Symbol<'a>], limits: Limits) -> Re
 fn read_do<'a>(alloc: Global, tokens: &'a [Symbol<'a>], limits: Limits) -> Read<'a, Stat>
     ensures { Gives (reads_at limits do_stat tokens.now) result }
 {
-    let (head, rest) = one(tokens, Terminal::Do, limits)?;
-    let (inner, rest) = read_inner_stat(alloc, rest, limits)?;
+    let (head, rest) = got!(one(tokens, Terminal::Do, limits));
+    let (inner, rest) = got!(read_inner_stat(alloc, rest, limits));
     read_after_do(alloc, head.position, inner, rest, limits)
 }
 
@@ -650,8 +650,8 @@ fn read_for_body<'a>(
 fn read_for<'a>(alloc: Global, tokens: &'a [Symbol<'a>], limits: Limits) -> Read<'a, Stat>
     ensures { Gives (reads_at limits for_stat tokens.now) result }
 {
-    let (head, rest) = one(tokens, Terminal::For, limits)?;
-    let (start, rest) = read_for_first(alloc, rest, limits)?;
+    let (head, rest) = got!(one(tokens, Terminal::For, limits));
+    let (start, rest) = got!(read_for_first(alloc, rest, limits));
     let (test, rest) = keeping!(start; read_for_test(alloc, rest, limits));
     let (step, rest) = keeping!(start, test; read_for_step(alloc, rest, limits));
     read_for_body(alloc, head.position, (start, test, step), rest, limits)
@@ -705,7 +705,7 @@ pub fn read_body<'a>(
 ) -> Read<'a, Items<Stat>>
     ensures { Gives (reads_at limits body tokens.now) result }
 {
-    let (_, rest) = one(tokens, Terminal::OpenBrace, limits)?;
-    let (list, rest) = read_stats(alloc, rest, limits)?;
+    let (_, rest) = got!(one(tokens, Terminal::OpenBrace, limits));
+    let (list, rest) = got!(read_stats(alloc, rest, limits));
     followed(list, Terminal::CloseBrace, rest, limits)
 }

@@ -47,7 +47,7 @@ fn read_inner_amount<'a>(
 ) -> Read<'a, TimeForm>
     ensures { Gives (reads_at limits (inner_amount head) tokens.now) result }
 {
-    let (amount, rest) = read_inner_value(alloc, tokens, limits)?;
+    let (amount, rest) = got!(read_inner_value(alloc, tokens, limits));
     let (_, rest) = keeping!(amount; one_inside(rest, Terminal::Comma, limits));
     let (unit, rest) = keeping!(amount; read_unit_inside(rest, limits));
     Ok((TimeForm::Made(head.position, amount, unit), rest))
@@ -63,12 +63,12 @@ pub fn read_named_time<'a>(
     ensures { Gives (reads_at limits named_time tokens.now) result }
 {
     if starts(tokens, Terminal::ScZeroTime) {
-        let (head, rest) = one(tokens, Terminal::ScZeroTime, limits)?;
+        let (head, rest) = got!(one(tokens, Terminal::ScZeroTime, limits));
         return Ok((TimeForm::Zero(head.position), rest));
     }
-    let (head, rest) = one(tokens, Terminal::ScTime, limits)?;
-    let (_, rest) = one(rest, Terminal::Open, limits)?;
-    let (time, rest) = read_inner_amount(alloc, head, rest, limits)?;
+    let (head, rest) = got!(one(tokens, Terminal::ScTime, limits));
+    let (_, rest) = got!(one(rest, Terminal::Open, limits));
+    let (time, rest) = got!(read_inner_amount(alloc, head, rest, limits));
     followed(time, Terminal::Close, rest, limits)
 }
 
@@ -92,7 +92,7 @@ pub fn read_timed<'a>(alloc: Global, tokens: &'a [Symbol<'a>], limits: Limits) -
     if begins_with_named_time(tokens) {
         return read_named_time(alloc, tokens, limits);
     }
-    let (amount, rest) = read_value(alloc, tokens, limits)?;
+    let (amount, rest) = got!(read_value(alloc, tokens, limits));
     let (_, rest) = keeping!(amount; one(rest, Terminal::Comma, limits));
     let (unit, rest) = keeping!(amount; read_unit_of_time(rest, limits));
     Ok((TimeForm::Amount(amount, unit), rest))
@@ -125,7 +125,7 @@ pub fn read_boxed_named_time<'a>(
 ) -> Read<'a, Boxed<TimeForm>>
     ensures { Gives (reads_at limits named_time tokens.now) result }
 {
-    let (time, rest) = read_named_time(alloc, tokens, limits)?;
+    let (time, rest) = got!(read_named_time(alloc, tokens, limits));
     Ok((boxed(alloc, time)?, rest))
 }
 
@@ -138,7 +138,7 @@ pub fn read_boxed_timed<'a>(
 ) -> Read<'a, Boxed<TimeForm>>
     ensures { Gives (reads_at limits timed tokens.now) result }
 {
-    let (time, rest) = read_timed(alloc, tokens, limits)?;
+    let (time, rest) = got!(read_timed(alloc, tokens, limits));
     Ok((boxed(alloc, time)?, rest))
 }
 
@@ -151,6 +151,6 @@ pub fn read_boxed_timed_inside<'a>(
 ) -> Read<'a, Boxed<TimeForm>>
     ensures { Gives (reads_at limits (deeper timed) tokens.now) result }
 {
-    let (time, rest) = read_timed_inside(alloc, tokens, limits)?;
+    let (time, rest) = got!(read_timed_inside(alloc, tokens, limits));
     Ok((boxed(alloc, time)?, rest))
 }

@@ -7,7 +7,7 @@ use crate::keeping::discard;
 use crate::signs::begins_with_named_time;
 use crate::times::{read_named_time_inside, read_unit_inside};
 use ooo_exprs::read_inner_value;
-use ooo_grammar::{Limits, Read, one, one_inside, starts};
+use ooo_grammar::{Limits, Read, ReadError, one, one_inside, starts};
 use ooo_syntax::{Awaited, Event, Expr, Symbol, Terminal, TimeForm};
 use sqlite_items::Items;
 use std::alloc::Global;
@@ -92,9 +92,14 @@ fn read_awaited_expression<'a>(
 ) -> Read<'a, Awaited>
     ensures { Gives (reads_at limits awaited_expression tokens.now) result }
 {
-    let (first, rest) = read_inner_value(alloc, tokens, limits)?;
-    let list = spelled_events(alloc, &first)?;
-    read_after_awaited(alloc, list, first, rest, limits)
+    let (first, rest) = got!(read_inner_value(alloc, tokens, limits));
+    match spelled_events(alloc, &first) {
+        Ok(list) => read_after_awaited(alloc, list, first, rest, limits),
+        Err(_) => {
+            discard(first);
+            Err(ReadError::OutOfMemory)
+        }
+    }
 }
 
 // What `wait` or `next_trigger` waits for, in parentheses.
@@ -106,13 +111,13 @@ pub(crate) fn read_awaiting<'a>(
 ) -> Read<'a, Awaited>
     ensures { Gives (reads_at limits awaiting tokens.now) result }
 {
-    let (_, rest) = one(tokens, Terminal::Open, limits)?;
+    let (_, rest) = got!(one(tokens, Terminal::Open, limits));
     if starts(rest, Terminal::Close) {
-        let (_, rest) = one(rest, Terminal::Close, limits)?;
+        let (_, rest) = got!(one(rest, Terminal::Close, limits));
         return Ok((Awaited::Sensitive, rest));
     }
     if begins_with_named_time(rest) {
-        let (time, rest) = read_named_time_inside(alloc, rest, limits)?;
+        let (time, rest) = got!(read_named_time_inside(alloc, rest, limits));
         return read_after_time(alloc, time, rest, limits);
     }
     read_awaited_expression(alloc, rest, limits)
