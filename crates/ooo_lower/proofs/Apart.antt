@@ -1,5 +1,5 @@
 -- The parts of statements are put next, part by part.
-use Rattle.std.proofs.Common.{◌≡◌, ◌∙◌, refl, ap, sym, subst, cond, ℕ, zero, suc, ◌+◌, ◌≤◌, ◌<◌, ◌-◌, List, [], ◌∷◌, ◌++◌, drop, get_or, length, Option, Some, None, arith, append-nil}
+use Rattle.std.proofs.Common.{◌≡◌, ◌∙◌, refl, ap, sym, subst, cond, ℕ, zero, suc, ◌+◌, ◌≤◌, ◌<◌, ◌-◌, List, [], ◌∷◌, drop, get_or, length, Some, None, arith, append-nil}
 use Rattle.std.proofs.Math.ListN.{drop_of_length-le}
 use Rattle.std.proofs.Math.Dec.{eqb-suc-zero}
 use Rattle.ooo_bound.specs.declared.expr.BoundExpr.{BoundExpr}
@@ -10,7 +10,7 @@ use Rattle.ooo_lower.proofs.Measured.{from_part}
 use Rattle.ooo_lower.proofs.Left.{splits_behind, splits_do, splits_first, splits_if, splits_loop, splits_on, splits_plain_loop, splits_then, splits_turn}
 use Rattle.ooo_shapes.specs.declared.around.Around.{Around}
 use Rattle.ooo_shapes.specs.Simples.{Home, begins}
-use Rattle.ooo_shapes.specs.Shapes.{Callees, Shape, body_shape, do_shape, empty, entry, if_shape, inside, lined_shape, lined_shapes, loop_shape, shape_of, then}
+use Rattle.ooo_shapes.specs.Shapes.{Callees, Shape, body_shape, do_shape, empty, if_shape, inside, lined_shape, lined_shapes, loop_shape, shape_of, then}
 
 begins_as : (size size2 at at2 next : ℕ) → size ≡ size2 → at ≡ at2 → begins size at next ≡ begins size2 at2 next
 begins_as size size2 at at2 next e f = ap (λ n. begins n at next) e ∙ ap (λ n. begins size2 n next) f
@@ -104,10 +104,10 @@ module _ (h : Home) (cs : Callees) where
 
 -- ---- statements with statements in them
 
-pub if_split : (line : ℕ) (e : BoundExpr) (a b : Shape) (t : Around) (far near next at yes_at yes_size narrowed no_at no_size : ℕ) (r0 r1 r2 r3 : Rest) → yes_at ≡ at + 1 → yes_size ≡ a.size → narrowed ≡ yes_size → no_at ≡ yes_at + narrowed → no_size ≡ b.size → near ≡ begins yes_size yes_at next → far ≡ begins no_size no_at next → ((p : ℕ) → Splits (before b t next r0) r1 p) → r2 ≡ before a t next r1 → r3 ≡ before (test_shape line e far near) t next r2 → Splits (before (if_shape line e a b) t next r0) r3 at
-if_split line e a b t far near next at yes_at yes_size narrowed no_at no_size r0 r1 r2 r3 eya eys en ena ens ey eno split e2 e3 =
+pub if_split : (line : ℕ) (e : BoundExpr) (a b : Shape) (t : Around) (far near next at yes_at yes_size no_at no_size : ℕ) (r0 r1 r2 r3 : Rest) → yes_at ≡ at + 1 → yes_size ≡ a.size → no_at ≡ yes_at + yes_size → no_size ≡ b.size → near ≡ begins yes_size yes_at next → far ≡ begins no_size no_at next → ((p : ℕ) → Splits (before b t next r0) r1 p) → r2 ≡ before a t next r1 → r3 ≡ before (test_shape line e far near) t next r2 → Splits (before (if_shape line e a b) t next r0) r3 at
+if_split line e a b t far near next at yes_at yes_size no_at no_size r0 r1 r2 r3 eya eys ena ens ey eno split e2 e3 =
     let test = test_shape line e far near in
-    let behind : no_at ≡ at + 1 + a.size = omega (arith, ena, en, eys, eya) in
+    let behind : no_at ≡ at + 1 + a.size = omega (arith, ena, eys, eya) in
     subst (λ r. Splits (before (if_shape line e a b) t next r0) r at) (sym (e3 ∙ ap (before test t next) e2))
     (splits_on (before (if_shape line e a b) t next r0) (before test t next (before a t next (before b t next r0))) (before test t next (before a t next r1)) at
     (splits_if line e a b t far near next at r0 (ey ∙ begins_as yes_size a.size yes_at (at + 1) next eys eya) (eno ∙ begins_as no_size b.size no_at (at + 1 + a.size) next ens behind))
@@ -122,24 +122,24 @@ pub plain_loop_split : (line : ℕ) (e : BoundExpr) (a : Shape) (t : Around) (ne
 plain_loop_split line e a t next at r0 r1 h =
     splits_on (before (loop_shape line e None a) t next r0) (before (turn_shape line e at a) t next r0) r1 at (splits_plain_loop line e a t at next at r0 refl) h
 
-pub loop_split : (line : ℕ) (e : BoundExpr) (x a : Shape) (t : Around) (test again next at step_at size narrowed : ℕ) (r0 r1 r2 r3 : Rest) → step_at ≡ at + 1 → size ≡ x.size → narrowed ≡ size → test ≡ step_at + narrowed → again ≡ begins size step_at test → Splits (before (turn_shape line e again a) t next r0) r1 test → r2 ≡ before x t test r1 → r3 ≡ before (pass_shape line) t test r2 → Splits (before (loop_shape line e (Some x) a) t next r0) r3 at
-loop_split line e x a t test again next at step_at size narrowed r0 r1 r2 r3 est es en et ea h e2 e3 =
+pub loop_split : (line : ℕ) (e : BoundExpr) (x a : Shape) (t : Around) (test again next at step_at size : ℕ) (r0 r1 r2 r3 : Rest) → step_at ≡ at + 1 → size ≡ x.size → test ≡ step_at + size → again ≡ begins size step_at test → Splits (before (turn_shape line e again a) t next r0) r1 test → r2 ≡ before x t test r1 → r3 ≡ before (pass_shape line) t test r2 → Splits (before (loop_shape line e (Some x) a) t next r0) r3 at
+loop_split line e x a t test again next at step_at size r0 r1 r2 r3 est es et ea h e2 e3 =
     let turn = before (turn_shape line e again a) t next r0 in
     let pass = pass_shape line in
-    let place : test ≡ at + 1 + x.size = omega (arith, et, est, en, es) in
+    let place : test ≡ at + 1 + x.size = omega (arith, et, est, es) in
     subst (λ r. Splits (before (loop_shape line e (Some x) a) t next r0) r at) (sym (e3 ∙ ap (before pass t test) e2))
     (splits_on (before (loop_shape line e (Some x) a) t next r0) (before pass t test (before x t test turn)) (before pass t test (before x t test r1)) at
     (splits_loop line e x a t test again next at r0 place (ea ∙ begins_as size x.size step_at (at + 1) test es est))
     (splits_behind pass t test (before x t test turn) (before x t test r1) at (splits_behind x t test turn r1 (at + 1) (subst (λ p. Splits turn r1 p) place h))))
 
-pub do_split : (line : ℕ) (e : BoundExpr) (a : Shape) (t u : Around) (test next at size narrowed : ℕ) (r0 r1 r2 : Rest) → size ≡ a.size → narrowed ≡ size → test ≡ at + narrowed → u ≡ inside t next test → r1 ≡ before (test_shape line e next at) t next r0 → r2 ≡ before a u test r1 → Splits (before (do_shape line e a) t next r0) r2 at
-do_split line e a t u test next at size narrowed r0 r1 r2 es en et eu e1 e2 =
+pub do_split : (line : ℕ) (e : BoundExpr) (a : Shape) (t u : Around) (test next at size : ℕ) (r0 r1 r2 : Rest) → size ≡ a.size → test ≡ at + size → u ≡ inside t next test → r1 ≡ before (test_shape line e next at) t next r0 → r2 ≡ before a u test r1 → Splits (before (do_shape line e a) t next r0) r2 at
+do_split line e a t u test next at size r0 r1 r2 es et eu e1 e2 =
     subst (λ r. Splits (before (do_shape line e a) t next r0) r at) (sym (e2 ∙ ap (before a u test) e1))
-    (splits_do line e a t u test next at at r0 (omega (arith, et, en, es)) eu refl)
+    (splits_do line e a t u test next at at r0 (omega (arith, et, es)) eu refl)
 
-pub for_split : (b l : Shape) (t : Around) (loop_at next at size narrowed : ℕ) (r0 r1 r2 : Rest) → 1 ≤ l.size → size ≡ b.size → narrowed ≡ size → loop_at ≡ at + narrowed → Splits (before l t next r0) r1 loop_at → r2 ≡ before b t loop_at r1 → Splits (before (then b l) t next r0) r2 at
-for_split b l t loop_at next at size narrowed r0 r1 r2 some es en el h e2 =
-    let place : loop_at ≡ at + b.size = omega (arith, el, en, es) in
+pub for_split : (b l : Shape) (t : Around) (loop_at next at size : ℕ) (r0 r1 r2 : Rest) → 1 ≤ l.size → size ≡ b.size → loop_at ≡ at + size → Splits (before l t next r0) r1 loop_at → r2 ≡ before b t loop_at r1 → Splits (before (then b l) t next r0) r2 at
+for_split b l t loop_at next at size r0 r1 r2 some es el h e2 =
+    let place : loop_at ≡ at + b.size = omega (arith, el, es) in
     subst (λ r. Splits (before (then b l) t next r0) r at) (sym e2)
     (splits_on (before (then b l) t next r0) (before b t loop_at (before l t next r0)) (before b t loop_at r1) at
     (splits_then b l t loop_at next at r0 (place ∙ sym (begins_some l.size (at + b.size) next some)))

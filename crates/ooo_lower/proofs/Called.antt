@@ -1,5 +1,5 @@
 -- A called function is written out.
-use Rattle.std.proofs.Common.{◌≡◌, ◌∙◌, refl, ap, sym, subst, ℕ, suc, ◌+◌, List, [], ◌∷◌, ◌++◌, length, drop, min, Option, Some, None, arith, append_assoc, length-append}
+use Rattle.std.proofs.Common.{◌≡◌, ◌∙◌, refl, ap, sym, subst, ℕ, suc, ◌+◌, List, [], ◌∷◌, ◌++◌, length, drop, min, Some, arith, append_assoc, length-append}
 use Rattle.ooo_value.specs.declared.kinds.Kind.{Kind}
 use Rattle.ooo_code.specs.declared.node.Node.{Node}
 use Rattle.ooo_code.specs.declared.node.NodeKind.TheVariants as kind
@@ -38,12 +38,12 @@ in_a_row c a g n rest i j =
     ∙ ap (λ x. a ++ x) (append_assoc g (n ++ (j ∷ [])) rest ∙ ap (λ x. g ++ x) (append_assoc n (j ∷ []) rest))))
 
 -- the parts of a call up to its body are put; c0 to c4 is the code between them
-pub call_begun : (h : Home) (into : BoundTarget) (args : List BoundExpr) (f : BoundFunction) (body : Shape) (s : Spot) (u : Around) (free goto_at body_at leave : ℕ) (c0 c1 c2 c3 c4 : Code) (r0 r1 r2 : Rest) →
-    free ≡ length c0.slots → goto_at ≡ length c0.nodes + 1 → body_at ≡ goto_at + length (call_kinds f) + min (length f.params) (length args) → leave ≡ body_at + body.size → u ≡ inside_call f free leave →
+pub call_begun : (h : Home) (into : BoundTarget) (args : List BoundExpr) (f : BoundFunction) (body : Shape) (s : Spot) (u : Around) (free goto_at leave : ℕ) (c0 c1 c2 c3 c4 : Code) (r0 r1 r2 : Rest) →
+    free ≡ length c0.slots → goto_at ≡ length c0.nodes + 1 → leave ≡ goto_at + length (call_kinds f) + min (length f.params) (length args) + body.size → u ≡ inside_call f free leave →
     Puts (counted kind.Goto s.line goto_at ∷ []) c0 c1 → PutsKinds (call_kinds f) c1 c2 → Puts (zero_nodes s.line free (drop free c2.slots) (length c2.nodes)) c2 c3 → Puts (argument_nodes s.around u s.line 0 f.params args (length c3.nodes)) c3 c4 →
     r1 ≡ before (leave_shape h s.line into f.result free) s.around s.next r0 → r2 ≡ before body u leave r1 →
     Goes (before (call_shape h s.line into args (Some (record { function = f; body = body }))) s.around s.next r0) r2 c0 c4
-call_begun h into args f body s u free goto_at body_at leave c0 c1 c2 c3 c4 r0 r1 r2 e_free e_goto e_body e_leave e_u p1 p2 p3 p4 e1 e2 =
+call_begun h into args f body s u free goto_at leave c0 c1 c2 c3 c4 r0 r1 r2 e_free e_goto e_leave e_u p1 p2 p3 p4 e1 e2 =
     let l = length c0.nodes in
     let fr = length c0.slots in
     let zeros = length (call_kinds f) in
@@ -57,8 +57,7 @@ call_begun h into args f body s u free goto_at body_at leave c0 c1 c2 c3 c4 r0 r
     let n2 : length c2.nodes ≡ l + 1 = ap length p2.nodes_are ∙ n1 in
     let q3 : c3.nodes ≡ c2.nodes ++ zero_nodes s.line fr (call_kinds f) (l + 1) = p3.nodes_are ∙ ap (λ x. c2.nodes ++ zero_nodes s.line x (drop free c2.slots) (length c2.nodes)) e_free ∙ ap (λ x. c2.nodes ++ zero_nodes s.line fr x (length c2.nodes)) left ∙ ap (λ x. c2.nodes ++ zero_nodes s.line fr (call_kinds f) x) n2 in
     let n3 : length c3.nodes ≡ l + 1 + zeros = omega (arith, ap length q3, length-append c2.nodes (zero_nodes s.line fr (call_kinds f) (l + 1)), length_zeros s.line fr (call_kinds f) (l + 1), n2) in
-    let p_body : body_at ≡ b = omega (arith, e_body, e_goto) in
-    let p_leave : leave ≡ v = omega (arith, e_leave, p_body) in
+    let p_leave : leave ≡ v = omega (arith, e_leave, e_goto) in
     let same_u : u ≡ w = e_u ∙ ap (λ x. inside_call f x leave) e_free ∙ ap (λ x. inside_call f fr x) p_leave in
     let q4 : c4.nodes ≡ c3.nodes ++ argument_nodes s.around w s.line 0 f.params args (l + 1 + zeros) = p4.nodes_are ∙ ap (λ x. c3.nodes ++ argument_nodes s.around x s.line 0 f.params args (length c3.nodes)) same_u ∙ ap (λ x. c3.nodes ++ argument_nodes s.around w s.line 0 f.params args x) n3 in
     let n4 : length c4.nodes ≡ b = omega (arith, ap length q4, length-append c3.nodes (argument_nodes s.around w s.line 0 f.params args (l + 1 + zeros)), length_arguments s.around w s.line 0 f.params args (l + 1 + zeros), n3) in

@@ -1,16 +1,14 @@
 -- Parts that are put one after the other.
-use Rattle.std.proofs.Common.{◌≡◌, ◌∙◌, refl, ap, sym, subst, cond, ℕ, zero, suc, ◌+◌, ◌≤◌, List, [], ◌∷◌, ◌++◌, length, min, Option, Some, None, arith, append_assoc, append-nil, length-append}
-use Rattle.std.proofs.Math.Dec.{eqb-suc-zero}
+use Rattle.std.proofs.Common.{◌≡◌, ◌∙◌, refl, ap, sym, subst, ℕ, ◌+◌, List, [], ◌∷◌, ◌++◌, length, Some, None, arith, append_assoc, append-nil, length-append}
 use Rattle.ooo_value.specs.declared.kinds.Kind.{Kind}
-use Rattle.ooo_code.specs.declared.node.Node.{Node}
 use Rattle.ooo_bound.specs.declared.expr.BoundExpr.{BoundExpr}
 use Rattle.ooo_lower.specs.declared.code.Code.{Code}
 use Rattle.ooo_lower.specs.declared.tasks.Task.{Task}
-use Rattle.ooo_lower.specs.Codes.{Emits, Puts}
+use Rattle.ooo_lower.specs.Codes.{Emits}
 use Rattle.ooo_lower.specs.Tasks.{Goes, Rest, Splits, before, left_of, nothing_left, pass_shape, task_before, tasks_before, test_shape, turn_shape}
 use Rattle.ooo_shapes.specs.declared.around.Around.{Around}
-use Rattle.ooo_shapes.specs.Simples.{Home, begins}
-use Rattle.ooo_shapes.specs.Shapes.{Shape, again_at, do_shape, entry, if_shape, inside, loop_shape, then}
+use Rattle.ooo_shapes.specs.Simples.{Home}
+use Rattle.ooo_shapes.specs.Shapes.{Shape, do_shape, entry, if_shape, inside, loop_shape, then}
 
 -- ---- the list of tasks
 

@@ -1,5 +1,5 @@
 -- How large the shapes of statements with parts are.
-use Rattle.std.proofs.Common.{◌≡◌, ◌⊎◌, inl, inr, ⊎_elim, ◌∙◌, refl, ap, sym, subst, get_or, ℕ, zero, suc, ◌+◌, ◌<◌, ◌≤◌, max, List, [], ◌∷◌, drop, length, min, Option, Some, None, arith, replicate}
+use Rattle.std.proofs.Common.{◌≡◌, ◌⊎◌, inl, inr, ◌∙◌, refl, ap, sym, subst, get_or, ℕ, zero, suc, ◌+◌, ◌<◌, ◌≤◌, List, [], ◌∷◌, drop, length, min, Option, Some, None, arith, replicate}
 use Rattle.std.specs.Prelude.{slice_get, slice_set}
 use Rattle.ooo_bound.specs.declared.expr.BoundExpr.{BoundExpr}
 use Rattle.ooo_bound.specs.declared.model.Bound.{Bound}
@@ -7,7 +7,7 @@ use Rattle.ooo_bound.specs.declared.model.BoundFunction.{BoundFunction}
 use Rattle.ooo_bound.specs.declared.stat.BoundStat.{BoundStat}
 use Rattle.ooo_bound.specs.declared.stat.BoundTarget.{BoundTarget}
 use Rattle.ooo_lower.specs.declared.extents.Extent.{Extent}
-use Rattle.ooo_lower.specs.Extents.{AreExtents, Count, IsExtentOf, IsThen, Measures, home_in}
+use Rattle.ooo_lower.specs.Extents.{AreExtents, Count, IsExtentOf, IsOneMore, IsThen, Measures, home_in}
 use Rattle.ooo_shapes.specs.Simples.{Home}
 use Rattle.ooo_shapes.specs.Shapes.{Callees, Shape, body_shape, callee_by, callees_within, call_kinds, call_shape, shape_of}
 
@@ -25,6 +25,16 @@ module _ (m : Bound) where
   pub then_measures : (a b e : Extent) (x y : Count) → Measures a m x → Measures b m y → IsThen a b e → Measures e m (λ h cs. x h cs + y h cs)
   then_measures a b e x y p q t =
       λ s d le. omega (arith, t.0, p s d (omega (arith, t.1, le)), q s d (omega (arith, t.1, le)))
+
+  pub more_measures : (a e : Extent) (x : Count) → Measures a m x → IsOneMore a e → Measures e m (λ h cs. 1 + x h cs)
+  more_measures a e x p t = λ s d le. omega (arith, t.0, p s d (omega (arith, t.1, le)))
+
+  -- a loop that has nothing before its test
+  pub loop_measures : (a e : Extent) (x : Count) → Measures a m x → IsOneMore a e → Measures e m (λ h cs. 0 + (1 + x h cs))
+  loop_measures a e x p t = λ s d le. omega (arith, t.0, p s d (omega (arith, t.1, le)))
+
+  pub measures_more : (a e : Extent) (x : Count) → Measures a m x → IsOneMore a e → Measures e m (λ h cs. x h cs + 1)
+  measures_more a e x p t = λ s d le. omega (arith, t.0, p s d (omega (arith, t.1, le)))
 
   pub same_measures : (e : Extent) (x y : Count) → ((h : Home) (cs : Callees) → x h cs ≡ y h cs) → Measures e m x → Measures e m y
   same_measures e x y same p = λ s d le. p s d le ∙ same (home_in m s) (callees_within d (home_in m s))

@@ -4,11 +4,13 @@ use Rattle.std.specs.Prelude.{slice_get}
 use Rattle.std.proofs.Math.ListN.{drop_of_length-le}
 use Rattle.ooo_bound.specs.declared.model.BoundFunction.{BoundFunction}
 use Rattle.ooo_bound.specs.declared.stat.BoundStat.{BoundStat, BoundStat-F, map-BoundStat, roll-BoundStat, fold-roll-BoundStat}
+use Rattle.ooo_bound.specs.declared.expr.BoundExpr.{BoundExpr}
+use Rattle.ooo_bound.specs.declared.stat.LinedSimple.{LinedSimple}
 use Rattle.ooo_bound.specs.declared.stat.BoundStat.TheOpen as layer
 use Rattle.ooo_bound.specs.declared.stat.BoundStat.TheVariants as tree
 use Rattle.ooo_lower.specs.declared.sizes.Weight.{Weight}
-use Rattle.ooo_lower.specs.Weighing.{AreWeighed, IsLeft, IsWeightOf, calls_size, found_size, sizes_by, weight_by}
-use Rattle.ooo_shapes.specs.Sizes.{Sizes, body_size, function_size, size_step, sizes_within, stat_size, sum_of}
+use Rattle.ooo_lower.specs.Weighing.{AreWeighed, IsLeft, IsWeightOf, calls_size, else_size, found_size, sizes_by, weight_by}
+use Rattle.ooo_shapes.specs.Sizes.{Sizes, after_size, body_size, function_size, simple_size, simples_size, size_step, sizes_within, stat_size, sum_of}
 
 pub calls_more : (sizes : Sizes) (fs : List ℕ) (f : ℕ) → calls_size sizes (fs ++ f ∷ []) ≡ calls_size sizes fs + sizes f
 calls_more sizes [] f = omega arith
@@ -24,6 +26,22 @@ in_order sizes (x ∷ xs) = ap (λ n. stat_size sizes x + n) (in_order sizes xs)
 
 pub size_Block : (sizes : Sizes) (xs : List BoundStat) → stat_size sizes (tree.Block xs) ≡ body_size sizes xs
 size_Block sizes xs = ap (stat_size sizes) (sym (tree.rolls-Block xs)) ∙ size_at sizes (layer.Block xs) ∙ in_order sizes xs
+
+pub size_Simple : (sizes : Sizes) (x : LinedSimple) → stat_size sizes (tree.Simple x) ≡ simple_size sizes x.simple
+size_Simple sizes x = ap (stat_size sizes) (sym (tree.rolls-Simple x)) ∙ size_at sizes (layer.Simple x)
+
+pub size_If : (sizes : Sizes) (line : ℕ) (e : BoundExpr) (a : BoundStat) (o : Option BoundStat) → stat_size sizes (tree.If line e a o) ≡ 1 + (stat_size sizes a + else_size sizes o)
+size_If sizes line e a None = ap (stat_size sizes) (sym (tree.rolls-If line e a None)) ∙ size_at sizes (layer.If line e a None)
+size_If sizes line e a (Some b) = ap (stat_size sizes) (sym (tree.rolls-If line e a (Some b))) ∙ size_at sizes (layer.If line e a (Some b))
+
+pub size_While : (sizes : Sizes) (line : ℕ) (e : BoundExpr) (a : BoundStat) → stat_size sizes (tree.While line e a) ≡ 1 + stat_size sizes a
+size_While sizes line e a = ap (stat_size sizes) (sym (tree.rolls-While line e a)) ∙ size_at sizes (layer.While line e a)
+
+pub size_Do : (sizes : Sizes) (line : ℕ) (a : BoundStat) (e : BoundExpr) → stat_size sizes (tree.Do line a e) ≡ stat_size sizes a + 1
+size_Do sizes line a e = ap (stat_size sizes) (sym (tree.rolls-Do line a e)) ∙ size_at sizes (layer.Do line a e)
+
+pub size_For : (sizes : Sizes) (line : ℕ) (begin : List LinedSimple) (e : Option BoundExpr) (after : Option LinedSimple) (a : BoundStat) → stat_size sizes (tree.For line begin e after a) ≡ simples_size sizes begin + (1 + (after_size sizes after + stat_size sizes a))
+size_For sizes line begin e after a = ap (stat_size sizes) (sym (tree.rolls-For line begin e after a)) ∙ size_at sizes (layer.For line begin e after a)
 
 -- sizes that are the same of each function give the same
 same_calls : (a b : Sizes) (fs : List ℕ) → ((f : ℕ) → a f ≡ b f) → calls_size a fs ≡ calls_size b fs

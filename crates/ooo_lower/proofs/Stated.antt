@@ -1,5 +1,5 @@
 -- Statements are taken part by part.
-use Rattle.std.proofs.Common.{◌≡◌, ◌∙◌, ap, sym, subst, ℕ, List, [], ◌∷◌, ◌++◌, length, Option, Some, None}
+use Rattle.std.proofs.Common.{◌≡◌, ◌∙◌, ap, sym, subst, ℕ, List, [], ◌∷◌, ◌++◌, Option, None}
 use Rattle.ooo_code.specs.declared.node.NodeKind.{NodeKind}
 use Rattle.ooo_bound.specs.declared.expr.BoundExpr.{BoundExpr}
 use Rattle.ooo_bound.specs.declared.stat.BoundStat.{BoundStat}
@@ -9,64 +9,53 @@ use Rattle.ooo_lower.specs.declared.code.Code.{Code}
 use Rattle.ooo_lower.specs.declared.tasks.Task.{Task}
 use Rattle.ooo_lower.specs.Codes.{Emits}
 use Rattle.ooo_lower.specs.Extents.{else_shape}
-use Rattle.ooo_lower.specs.Tasks.{Goes, Rest, Splits, before, left_of, nothing_left, one_node, task_before}
+use Rattle.ooo_lower.specs.Tasks.{Goes, Rest, before, left_of, nothing_left, one_node, task_before}
 use Rattle.ooo_lower.proofs.Shaped.{shape_Block, shape_Do, shape_For, shape_If, shape_Simple, shape_While}
-use Rattle.ooo_lower.proofs.Left.{goes_on, goes_put, goes_same, goes_split, goes_to_end, last_left}
+use Rattle.ooo_lower.proofs.Left.{goes_on, goes_put, goes_same, goes_to_end, last_left}
 use Rattle.ooo_shapes.specs.declared.around.Around.{Around}
 use Rattle.ooo_shapes.specs.Simples.{Home, counted}
 use Rattle.ooo_shapes.specs.Shapes.{Callees, Shape, after_shape, body_shape, do_shape, if_shape, jump_shape, lined_shape, lined_shapes, loop_shape, shape_of, test_or_true, then}
 
-module _ (h : Home) (cs : Callees) (t : Around) (line next : ℕ) where
+-- ---- the shapes of statements
+
+module _ (h : Home) (cs : Callees) where
   abbrev S : BoundStat → Shape
   S s = shape_of h cs s
 
-  -- a part that stands next in place of a whole
-  whole_taken : (x y : Shape) (r0 r1 : Rest) (c : Code) → y ≡ x → r1 ≡ before x t next r0 → Goes (before y t next r0) r1 c c
-  whole_taken x y r0 r1 c e e1 =
-      subst (λ y. Goes (before y t next r0) r1 c c) (sym e) (subst (λ r. Goes (before x t next r0) r c c) (sym e1) (goes_same (before x t next r0) c))
+  pub block_is : (stat : BoundStat) (xs ys : List BoundStat) → stat ≡ tree.Block xs → ys ≡ xs → S stat ≡ body_shape h cs ys
+  block_is stat xs ys es ex = ap S es ∙ shape_Block h cs xs ∙ ap (body_shape h cs) (sym ex)
 
-  split_taken : (x y : Shape) (at : ℕ) (r0 r1 : Rest) (c : Code) → y ≡ x → at ≡ length c.nodes → Splits (before x t next r0) r1 at → Goes (before y t next r0) r1 c c
-  split_taken x y at r0 r1 c e ea h = subst (λ y. Goes (before y t next r0) r1 c c) (sym e) (goes_split (before x t next r0) r1 at c ea h)
+  pub simple_is : (stat : BoundStat) (x x1 : LinedSimple) → stat ≡ tree.Simple x → x1 ≡ x → S stat ≡ lined_shape h cs x1
+  simple_is stat x x1 es ex = ap S es ∙ shape_Simple h cs x ∙ ap (lined_shape h cs) (sym ex)
 
-  pub block_taken : (stat : BoundStat) (xs ys : List BoundStat) (r0 r1 : Rest) (c : Code) → stat ≡ tree.Block xs → ys ≡ xs → r1 ≡ before (body_shape h cs ys) t next r0 → Goes (before (S stat) t next r0) r1 c c
-  block_taken stat xs ys r0 r1 c es ex e1 =
-      whole_taken (body_shape h cs ys) (S stat) r0 r1 c (ap S es ∙ shape_Block h cs xs ∙ ap (body_shape h cs) (sym ex)) e1
+  pub if_is : (line : ℕ) (stat a a1 : BoundStat) (o : Option BoundStat) (e e1 : BoundExpr) → stat ≡ tree.If line e a o → e1 ≡ e → a1 ≡ a → S stat ≡ if_shape line e1 (S a1) (else_shape h cs o)
+  if_is line stat a a1 o e e1 es ee ea =
+      ap S es ∙ shape_If h cs line e a o ∙ ap (λ e. if_shape line e (S a) (else_shape h cs o)) (sym ee) ∙ ap (λ a. if_shape line e1 (S a) (else_shape h cs o)) (sym ea)
 
-  pub simple_taken : (stat : BoundStat) (x x1 : LinedSimple) (r0 r1 : Rest) (c : Code) → stat ≡ tree.Simple x → x1 ≡ x → r1 ≡ before (lined_shape h cs x1) t next r0 → Goes (before (S stat) t next r0) r1 c c
-  simple_taken stat x x1 r0 r1 c es ex e1 =
-      whole_taken (lined_shape h cs x1) (S stat) r0 r1 c (ap S es ∙ shape_Simple h cs x ∙ ap (lined_shape h cs) (sym ex)) e1
+  pub while_is : (line : ℕ) (stat a a1 : BoundStat) (e e1 : BoundExpr) → stat ≡ tree.While line e a → e1 ≡ e → a1 ≡ a → S stat ≡ loop_shape line e1 None (S a1)
+  while_is line stat a a1 e e1 es ee ea =
+      ap S es ∙ shape_While h cs line e a ∙ ap (λ e. loop_shape line e None (S a)) (sym ee) ∙ ap (λ a. loop_shape line e1 None (S a)) (sym ea)
 
-  pub jump_taken : (stat : BoundStat) (f : Around → NodeKind) (to : Around → ℕ) (r0 : Rest) (c d : Code) → S stat ≡ jump_shape line f to → Emits (one_node (counted (f t) line (to t))) t next c d → Goes (before (S stat) t next r0) r0 c d
-  jump_taken stat f to r0 c d e p =
-      subst (λ y. Goes (before y t next r0) r0 c d) (sym e)
-      (goes_put (jump_shape line f to) t next r0 c d (record { nodes_are = p.nodes_are; slots_are = p.slots_are; count_is = p.count_is }))
+  pub do_is : (line : ℕ) (stat a a1 : BoundStat) (e e1 : BoundExpr) → stat ≡ tree.Do line a e → e1 ≡ e → a1 ≡ a → S stat ≡ do_shape line e1 (S a1)
+  do_is line stat a a1 e e1 es ee ea =
+      ap S es ∙ shape_Do h cs line a e ∙ ap (λ e. do_shape line e (S a)) (sym ee) ∙ ap (λ a. do_shape line e1 (S a)) (sym ea)
 
-  pub if_taken : (stat a a1 : BoundStat) (o : Option BoundStat) (e e1 : BoundExpr) (at : ℕ) (r0 r1 : Rest) (c : Code) → stat ≡ tree.If line e a o → e1 ≡ e → a1 ≡ a → at ≡ length c.nodes → Splits (before (if_shape line e1 (S a1) (else_shape h cs o)) t next r0) r1 at → Goes (before (S stat) t next r0) r1 c c
-  if_taken stat a a1 o e e1 at r0 r1 c es ee ea place split =
-      split_taken (if_shape line e1 (S a1) (else_shape h cs o)) (S stat) at r0 r1 c
-      (ap S es ∙ shape_If h cs line e a o ∙ ap (λ e. if_shape line e (S a) (else_shape h cs o)) (sym ee) ∙ ap (λ a. if_shape line e1 (S a) (else_shape h cs o)) (sym ea))
-      place split
-
-  pub while_taken : (stat a a1 : BoundStat) (e e1 : BoundExpr) (at : ℕ) (r0 r1 : Rest) (c : Code) → stat ≡ tree.While line e a → e1 ≡ e → a1 ≡ a → at ≡ length c.nodes → Splits (before (loop_shape line e1 None (S a1)) t next r0) r1 at → Goes (before (S stat) t next r0) r1 c c
-  while_taken stat a a1 e e1 at r0 r1 c es ee ea place split =
-      split_taken (loop_shape line e1 None (S a1)) (S stat) at r0 r1 c
-      (ap S es ∙ shape_While h cs line e a ∙ ap (λ e. loop_shape line e None (S a)) (sym ee) ∙ ap (λ a. loop_shape line e1 None (S a)) (sym ea))
-      place split
-
-  pub do_taken : (stat a a1 : BoundStat) (e e1 : BoundExpr) (at : ℕ) (r0 r1 : Rest) (c : Code) → stat ≡ tree.Do line a e → e1 ≡ e → a1 ≡ a → at ≡ length c.nodes → Splits (before (do_shape line e1 (S a1)) t next r0) r1 at → Goes (before (S stat) t next r0) r1 c c
-  do_taken stat a a1 e e1 at r0 r1 c es ee ea place split =
-      split_taken (do_shape line e1 (S a1)) (S stat) at r0 r1 c
-      (ap S es ∙ shape_Do h cs line a e ∙ ap (λ e. do_shape line e (S a)) (sym ee) ∙ ap (λ a. do_shape line e1 (S a)) (sym ea))
-      place split
-
-  pub for_taken : (stat a a1 : BoundStat) (begin begin1 : List LinedSimple) (e : Option BoundExpr) (e1 : BoundExpr) (after : Option LinedSimple) (at : ℕ) (r0 r1 : Rest) (c : Code) → stat ≡ tree.For line begin e after a → begin1 ≡ begin → e1 ≡ test_or_true e → a1 ≡ a → at ≡ length c.nodes → Splits (before (then (lined_shapes h cs begin1) (loop_shape line e1 (after_shape h cs after) (S a1))) t next r0) r1 at → Goes (before (S stat) t next r0) r1 c c
-  for_taken stat a a1 begin begin1 e e1 after at r0 r1 c es eb ee ea place split =
+  pub for_is : (line : ℕ) (stat a a1 : BoundStat) (begin begin1 : List LinedSimple) (e : Option BoundExpr) (e1 : BoundExpr) (after : Option LinedSimple) → stat ≡ tree.For line begin e after a → begin1 ≡ begin → e1 ≡ test_or_true e → a1 ≡ a → S stat ≡ then (lined_shapes h cs begin1) (loop_shape line e1 (after_shape h cs after) (S a1))
+  for_is line stat a a1 begin begin1 e e1 after es eb ee ea =
       let whole = λ (b : List LinedSimple) (e : BoundExpr) (a : BoundStat). then (lined_shapes h cs b) (loop_shape line e (after_shape h cs after) (S a)) in
-      split_taken (whole begin1 e1 a1) (S stat) at r0 r1 c
-      (ap S es ∙ shape_For h cs line begin e after a ∙ ap (λ b. whole b (test_or_true e) a) (sym eb) ∙ ap (λ e. whole begin1 e a) (sym ee) ∙ ap (whole begin1 e1) (sym ea))
-      place split
+      ap S es ∙ shape_For h cs line begin e after a ∙ ap (λ b. whole b (test_or_true e) a) (sym eb) ∙ ap (λ e. whole begin1 e a) (sym ee) ∙ ap (whole begin1 e1) (sym ea)
+
+-- a jump is put
+pub jump_taken : (y : Shape) (t : Around) (line next : ℕ) (f : Around → NodeKind) (to : Around → ℕ) (r0 : Rest) (c d : Code) → y ≡ jump_shape line f to → Emits (one_node (counted (f t) line (to t))) t next c d → Goes (before y t next r0) r0 c d
+jump_taken y t line next f to r0 c d e p =
+    subst (λ y. Goes (before y t next r0) r0 c d) (sym e)
+    (goes_put (jump_shape line f to) t next r0 c d (record { nodes_are = p.nodes_are; slots_are = p.slots_are; count_is = p.count_is }))
 
 -- ---- tasks
+
+-- a part is to be put next
+pub goes_next : (x : Shape) (t : Around) (next : ℕ) (r0 r1 : Rest) (c : Code) → r1 ≡ before x t next r0 → Goes (before x t next r0) r1 c c
+goes_next x t next r0 r1 c e = subst (λ r. Goes (before x t next r0) r c c) (sym e) (goes_same (before x t next r0) c)
 
 -- another shape that is the same
 pub goes_as : (x y : Shape) (t : Around) (next : ℕ) (r0 r1 : Rest) (c d : Code) → y ≡ x → Goes (before x t next r0) r1 c d → Goes (before y t next r0) r1 c d

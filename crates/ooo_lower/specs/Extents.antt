@@ -28,6 +28,10 @@ Measures e b count =
 abbrev pub IsThen : (a b e : Extent) → Type 0
 IsThen a b e = (e.nodes ≡ a.nodes + b.nodes) × (e.depth ≡ max a.depth b.depth)
 
+-- a node, and then a part or the other way round
+abbrev pub IsOneMore : (a e : Extent) → Type 0
+IsOneMore a e = (e.nodes ≡ 1 + a.nodes) × (e.depth ≡ a.depth)
+
 -- how many nodes a call of a function has, but for its arguments
 abbrev pub called_size : Home → Callees → BoundFunction → ℕ
 called_size h callees f = 1 + (length (call_kinds f) + ((body_shape h callees f.body).size + 1))

@@ -7,3 +7,4 @@ pub mod Parts
 pub mod Lowered
 pub mod Weighing
 pub mod Tasks
+pub mod Calls

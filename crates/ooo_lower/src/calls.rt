@@ -7,9 +7,9 @@ ghost use Rattle.ooo_shapes.specs.Shapes.{zero_nodes};
 ghost use Rattle.ooo_shapes.specs.Widths.{kinds_of};
 
 use crate::code::Code;
-use crate::expressions::{converted, lowered, slot_of};
+use crate::expressions::lowered;
 use crate::extents::function_widths;
-use crate::kinds_of_nodes::{put_kind, result_expr};
+use crate::kinds_of_nodes::{put_kind, result_expr, set_kind};
 use crate::numbers::{behind, narrow};
 use crate::scene::Scene;
 use crate::simples::Spot;
@@ -72,7 +72,7 @@ pub(crate) fn put_zeros(code: &mut Code, line: u32, first: u32) -> Result<(), Al
         code.old code.new) }
 {
     'slots: for slot in first as usize..code.slots.len() {
-        let to = behind(code.at()?, 1)?;
+        let to = code.after()?;
         let kind = code.slots.as_slice()[slot];
         let slot = narrow(slot as u64)?;
         code.put_uncounted(
@@ -96,9 +96,7 @@ fn argument_kind(
     ensures { IfOk result (λ k. k ≡ argument_kind t u kind slot e.now) }
 {
     let value = lowered(alloc, t, e)?;
-    let value = converted(alloc, kind, value)?;
-    let slot = slot_of(u, kind, slot)?;
-    Ok(NodeKind::Set(slot, value))
+    set_kind(alloc, u, kind, slot, value)
 }
 
 /// The arguments of a call, from left to right.
@@ -115,7 +113,7 @@ pub(crate) fn put_arguments(
 {
     let given = kinds.len().min(args.len());
     'args: for n in 0..given {
-        let to = behind(code.at()?, 1)?;
+        let to = code.after()?;
         let slot = narrow(n as u64)?;
         let kind = argument_kind(alloc, spot.around, u, kinds[n], slot, &args[n])?;
         code.put_uncounted(kind, spot.line, to)?;

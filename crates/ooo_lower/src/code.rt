@@ -1,8 +1,8 @@
-ghost use Rattle.std.specs.Prelude.{◌≡◌, ◌++◌, [], ◌∷◌, length, IfOk, OnOk};
+ghost use Rattle.std.specs.Prelude.{◌≡◌, ◌+◌, ◌++◌, [], ◌∷◌, length, IfOk, OnOk};
 ghost use Rattle.ooo_shapes.specs.Simples.{counted, uncounted};
 ghost use Rattle.ooo_lower.specs.Codes.{Puts};
 
-use crate::numbers::narrow;
+use crate::numbers::{behind, narrow};
 use ooo_code::{Node, NodeKind};
 use ooo_value::Kind;
 use sqlite_items::Items;
@@ -21,6 +21,13 @@ impl Code {
         ensures { IfOk result (λ n. n ≡ length self.now.nodes) }
     {
         narrow(self.nodes.len() as u64)
+    }
+
+    /// The number of the node behind the next one.
+    pub(crate) fn after(&self) -> Result<u32, AllocError>
+        ensures { IfOk result (λ n. n ≡ length self.now.nodes + 1) }
+    {
+        behind(self.at()?, 1)
     }
 
     /// The number of the next slot.

@@ -16,7 +16,7 @@ ghost use Rattle.ooo_shapes.specs.Expressions.{first_kinds};
 use crate::calls::push_locals;
 use crate::code::Code;
 use crate::extents::{body_size, extents_of};
-use crate::numbers::{behind, narrow};
+use crate::numbers::past;
 use crate::order::callees_first;
 use crate::scene::{Known, Scene};
 use crate::simples::{Site, Spot};
@@ -87,7 +87,7 @@ fn lower_process(
     let widths = of_body(body);
     let first = code.at()?;
     let size = body_size(scene, depth, body)?;
-    let end = behind(first, narrow(size)?)?;
+    let end = past(first, size)?;
     push_first(alloc, code)?;
     push_locals(code, widths)?;
     let spot = Spot {
@@ -123,12 +123,14 @@ fn lowered_design(alloc: Global, known: Known<'_>) -> Result<Design, AllocError>
         slots: Items::new(alloc),
     };
     'processes: for process in model.processes.as_slice() {
-        let lowered = lower_process(alloc, known, &mut code, process)?;
-        processes.push(lowered)?;
+        let lowered = keeping!(code, processes; lower_process(alloc, known, &mut code, process));
+        keeping!(code, processes; processes.push(lowered));
     }
-    let variables = Items::from_slice(alloc, model.variables.as_slice())?;
-    let channels = Items::from_slice(alloc, model.channels.as_slice())?;
-    let events = Items::from_slice(alloc, model.events.as_slice())?;
+    let variables = keeping!(code, processes; Items::from_slice(alloc, model.variables.as_slice()));
+    let channels =
+        keeping!(code, processes, variables; Items::from_slice(alloc, model.channels.as_slice()));
+    let events =
+        keeping!(code, processes, variables, channels; Items::from_slice(alloc, model.events.as_slice()));
     Ok(Design {
         nodes: code.nodes,
         processes,

@@ -1,4 +1,5 @@
 ghost use Rattle.std.specs.Prelude.{◌≡◌, IfOk};
+ghost use Rattle.ooo_code.specs.declared.expression.NodeExpr.TheVariants as node;
 ghost use Rattle.ooo_shapes.specs.Expressions.{converted, kept, lowered, lowered_time, lowered_wait_time, slot_of};
 
 use crate::numbers::{narrow, sum};
@@ -27,6 +28,29 @@ fn kept(alloc: Global, e: Boxed<NodeExpr>) -> Result<NodeExpr, AllocError>
     Ok(NodeExpr::Binary(Op::ShiftLeft, e, nothing))
 }
 
+// An expression on the heap that is converted to a kind as the node runs.
+fn conversion(alloc: Global, kind: Kind, e: Boxed<NodeExpr>) -> Result<Boxed<NodeExpr>, AllocError>
+    ensures { IfOk result (λ x. x ≡ node.Convert kind e) }
+{
+    Boxed::new(alloc, NodeExpr::Convert(kind, e))
+}
+
+// A choice between two values, each converted to a kind.
+fn choice(
+    alloc: Global,
+    kind: Kind,
+    test: Boxed<NodeExpr>,
+    left: Boxed<NodeExpr>,
+    right: Boxed<NodeExpr>,
+) -> Result<NodeExpr, AllocError>
+    ensures { IfOk result (λ x.
+        x ≡ node.Choose test (node.Convert kind left) (node.Convert kind right)) }
+{
+    let left = keeping!(test, right; conversion(alloc, kind, left));
+    let right = keeping!(test, left; conversion(alloc, kind, right));
+    Ok(NodeExpr::Choose(test, left, right))
+}
+
 /// An expression of a function whose locals stand there.
 #[cycle(expr)]
 #[tactic(auto, unfolding(ooo_shapes::specs::Expressions::lowered))]
@@ -51,24 +75,21 @@ pub(crate) fn lowered(alloc: Global, t: Around, e: &BoundExpr) -> Result<NodeExp
         BoundExpr::Invert(e) => Ok(NodeExpr::Invert(boxed(alloc, t, e.get())?)),
         BoundExpr::Not(e) => Ok(NodeExpr::Not(boxed(alloc, t, e.get())?)),
         BoundExpr::Binary(op, a, b) => {
-            let left = boxed(alloc, t, a.get())?;
-            Ok(NodeExpr::Binary(*op, left, boxed(alloc, t, b.get())?))
+            let (left, right) = operands(alloc, t, a.get(), b.get())?;
+            Ok(NodeExpr::Binary(*op, left, right))
         }
         BoundExpr::Both(a, b) => {
-            let left = boxed(alloc, t, a.get())?;
-            Ok(NodeExpr::And(left, boxed(alloc, t, b.get())?))
+            let (left, right) = operands(alloc, t, a.get(), b.get())?;
+            Ok(NodeExpr::And(left, right))
         }
         BoundExpr::Either(a, b) => {
-            let left = boxed(alloc, t, a.get())?;
-            Ok(NodeExpr::Or(left, boxed(alloc, t, b.get())?))
+            let (left, right) = operands(alloc, t, a.get(), b.get())?;
+            Ok(NodeExpr::Or(left, right))
         }
         BoundExpr::Choose(kind, test, a, b) => {
             let test = boxed(alloc, t, test.get())?;
-            let left = boxed(alloc, t, a.get())?;
-            let right = boxed(alloc, t, b.get())?;
-            let left = Boxed::new(alloc, NodeExpr::Convert(*kind, left))?;
-            let right = Boxed::new(alloc, NodeExpr::Convert(*kind, right))?;
-            Ok(NodeExpr::Choose(test, left, right))
+            let (left, right) = keeping!(test; operands(alloc, t, a.get(), b.get()));
+            choice(alloc, *kind, test, left, right)
         }
     }
 }
@@ -81,6 +102,22 @@ fn boxed(alloc: Global, t: Around, e: &BoundExpr) -> Result<Boxed<NodeExpr>, All
 {
     let tree = lowered(alloc, t, e)?;
     Boxed::new(alloc, tree)
+}
+
+// Two expressions on the heap.
+#[cycle(expr)]
+#[tactic(auto, unfolding(ooo_shapes::specs::Expressions::lowered))]
+fn operands(
+    alloc: Global,
+    t: Around,
+    a: &BoundExpr,
+    b: &BoundExpr,
+) -> Result<(Boxed<NodeExpr>, Boxed<NodeExpr>), AllocError>
+    ensures { IfOk result (λ x. x ≡ (lowered t a.now, lowered t b.now)) }
+{
+    let left = boxed(alloc, t, a)?;
+    let right = keeping!(left; boxed(alloc, t, b));
+    Ok((left, right))
 }
 
 /// A value converted to a kind: a constant at once, and any other value as the node runs.

@@ -1,7 +1,8 @@
 ghost use Rattle.std.specs.Prelude.{◌≡◌, ◌+◌, ◌≤◌, ◌-◌, ℕ, Some, None, IfOk, MatchOption, OnOk, length, max, min};
 ghost use Rattle.std.specs.Prelude.{slice_get};
 ghost use Rattle.ooo_bound.specs.declared.stat.BoundTarget.{BoundTarget as BoundTargetSpec};
-ghost use Rattle.ooo_lower.specs.Extents.{AreExtents, IsExtentOf, IsKnown, IsThen, Measures, else_shape};
+ghost use Rattle.ooo_lower.specs.Extents.{AreExtents, Count, IsExtentOf, IsKnown, IsOneMore, IsThen};
+ghost use Rattle.ooo_lower.specs.Extents.{Measures, else_shape};
 ghost use Rattle.ooo_shapes.specs.Shapes.{after_shape, body_shape, call_kinds, call_shape, callees_within};
 ghost use Rattle.ooo_shapes.specs.Shapes.{function_widths, lead_size, lined_shape, lined_shapes, shape_of};
 ghost use Rattle.ooo_shapes.specs.Shapes.{shape_within};
@@ -42,11 +43,18 @@ fn then(a: Extent, b: Extent) -> Result<Extent, AllocError>
     })
 }
 
+// A node, and then a shape or the other way round.
+fn one_more(e: Extent) -> Result<Extent, AllocError>
+    ensures { IfOk result (λ x. IsOneMore e x) }
+{
+    let nodes = sum(1, e.nodes)?;
+    Ok(Extent { nodes, ..e })
+}
+
 // How many nodes an extent has, where calls may be nested so deep. It is out of memory where they are nested deeper, which
 // those of a sound model aren't.
 fn nodes_within(e: Extent, depth: usize) -> Result<u64, AllocError>
-    ensures nodes { IfOk result (λ n. n ≡ e.nodes) }
-    ensures within { IfOk result (λ n. e.depth ≤ depth) }
+    ensures { IfOk result (λ n. (n ≡ e.nodes) × (e.depth ≤ depth)) }
 {
     if e.depth > depth as u64 {
         return Err(AllocError);
@@ -142,10 +150,7 @@ fn of_call(known: Known<'_>, f: u32, args: &[BoundExpr]) -> Result<Extent, Alloc
 {
     match function_of(known, f) {
         None => Ok(plain(0)),
-        Some(function) => {
-            let extent = of_found(known, f, function, args)?;
-            Ok(extent)
-        }
+        Some(function) => of_found(known, f, function, args),
     }
 }
 
@@ -158,10 +163,7 @@ pub(crate) fn of_lined(known: Known<'_>, x: &LinedSimple) -> Result<Extent, Allo
     match &x.simple {
         BoundSimple::Assign(_, right) => match right {
             BoundRight::Value(_) => Ok(plain(1)),
-            BoundRight::Call(f, args) => {
-                let extent = of_call(known, *f, args.as_slice())?;
-                Ok(extent)
-            }
+            BoundRight::Call(f, args) => of_call(known, *f, args.as_slice()),
             BoundRight::Read(_) => Ok(plain(4)),
             BoundRight::NbRead(_, _) => Ok(plain(6)),
             BoundRight::NbWrite(_, _) => Ok(plain(5)),
@@ -204,10 +206,29 @@ fn of_lead(known: Known<'_>, after: &Option<Boxed<LinedSimple>>) -> Result<Exten
         None => Ok(plain(0)),
         Some(x) => {
             let step = of_lined(known, x.get())?;
-            let all = then(plain(1), step)?;
-            Ok(all)
+            one_more(step)
         }
     }
+}
+
+// A `for` whose body has this extent.
+fn of_for(
+    known: Known<'_>,
+    begin: &[LinedSimple],
+    after: &Option<Boxed<LinedSimple>>,
+    body: Extent,
+) -> Result<Extent, AllocError>
+    requires { IsKnown known }
+    ensures { (count : Count) → Measures body known.entry.model.now count → IfOk result (λ e.
+        Measures e known.entry.model.now (λ h callees.
+        (lined_shapes h callees begin.now).size
+        + (lead_size (after_shape h callees after.now) + (1 + count h callees)))) }
+{
+    let begin = of_lineds(known, begin)?;
+    let lead = of_lead(known, after)?;
+    let turn = one_more(body)?;
+    let repeated = then(lead, turn)?;
+    then(begin, repeated)
 }
 
 // The statement after `else`, if there is one.
@@ -219,10 +240,7 @@ fn of_else(known: Known<'_>, no: &Option<Boxed<BoundStat>>) -> Result<Extent, Al
 {
     match no {
         None => Ok(plain(0)),
-        Some(stat) => {
-            let all = of_stat(known, stat.get())?;
-            Ok(all)
-        }
+        Some(stat) => of_stat(known, stat.get()),
     }
 }
 
@@ -235,40 +253,25 @@ fn of_stat(known: Known<'_>, stat: &BoundStat) -> Result<Extent, AllocError>
         (shape_of h callees stat.now).size)) }
 {
     match stat {
-        BoundStat::Block(body) => {
-            let all = of_stats(known, body.as_slice())?;
-            Ok(all)
-        }
-        BoundStat::Simple(x) => {
-            let all = of_lined(known, x.get())?;
-            Ok(all)
-        }
+        BoundStat::Block(body) => of_stats(known, body.as_slice()),
+        BoundStat::Simple(x) => of_lined(known, x.get()),
         BoundStat::If(_, _, yes, no) => {
             let yes = of_stat(known, yes.get())?;
             let no = of_else(known, no)?;
             let branches = then(yes, no)?;
-            let all = then(plain(1), branches)?;
-            Ok(all)
+            one_more(branches)
         }
         BoundStat::While(_, _, body) => {
             let body = of_stat(known, body.get())?;
-            let turn = then(plain(1), body)?;
-            let all = then(plain(0), turn)?;
-            Ok(all)
+            one_more(body)
         }
         BoundStat::Do(_, body, _) => {
             let body = of_stat(known, body.get())?;
-            let all = then(body, plain(1))?;
-            Ok(all)
+            one_more(body)
         }
         BoundStat::For(_, begin, _, after, body) => {
-            let begin = of_lineds(known, begin.as_slice())?;
-            let lead = of_lead(known, after)?;
             let body = of_stat(known, body.get())?;
-            let turn = then(plain(1), body)?;
-            let repeated = then(lead, turn)?;
-            let all = then(begin, repeated)?;
-            Ok(all)
+            of_for(known, begin.as_slice(), after, body)
         }
         BoundStat::Break(_) | BoundStat::Continue(_) | BoundStat::Return(_, _) => Ok(plain(1)),
     }
@@ -299,8 +302,7 @@ pub(crate) fn lined_size(scene: Scene<'_>, depth: usize, x: &LinedSimple) -> Res
         (callees_within depth (home_at scene.entry)) x.now).size) }
 {
     let extent = of_lined(scene.known, x)?;
-    let nodes = nodes_within(extent, depth)?;
-    Ok(nodes)
+    nodes_within(extent, depth)
 }
 
 /// That of simple statements one after the other.
@@ -314,8 +316,7 @@ pub(crate) fn lineds_size(
         (callees_within depth (home_at scene.entry)) xs.now).size) }
 {
     let extent = of_lineds(scene.known, xs)?;
-    let nodes = nodes_within(extent, depth)?;
-    Ok(nodes)
+    nodes_within(extent, depth)
 }
 
 /// That of the statement after `else`, if there is one.
@@ -329,8 +330,7 @@ pub(crate) fn else_size(
         (callees_within depth (home_at scene.entry)) no.now).size) }
 {
     let extent = of_else(scene.known, no)?;
-    let nodes = nodes_within(extent, depth)?;
-    Ok(nodes)
+    nodes_within(extent, depth)
 }
 
 /// That of a statement.
@@ -340,8 +340,7 @@ pub(crate) fn stat_size(scene: Scene<'_>, depth: usize, stat: &BoundStat) -> Res
         (callees_within depth (home_at scene.entry)) stat.now).size) }
 {
     let extent = of_stat(scene.known, stat)?;
-    let nodes = nodes_within(extent, depth)?;
-    Ok(nodes)
+    nodes_within(extent, depth)
 }
 
 /// That of the statements of a body.
@@ -354,8 +353,7 @@ pub(crate) fn body_size(
     ensures { IfOk result (λ n. n ≡ (shape_within depth (home_at scene.entry) body.now).size) }
 {
     let extent = of_stats(scene.known, body)?;
-    let nodes = nodes_within(extent, depth)?;
-    Ok(nodes)
+    nodes_within(extent, depth)
 }
 
 // ---- every function once

@@ -1,9 +1,11 @@
 ghost use Rattle.std.specs.Prelude.{◌≡◌, IfOk};
 ghost use Rattle.std.specs.List.{position_from};
-ghost use Rattle.ooo_activation.specs.Activations.{one_event};
+ghost use Rattle.ooo_activation.specs.Activations.{channel_kind, one_event};
+ghost use Rattle.ooo_activation.specs.Activations.{variable_kind as kind_of_variable};
+ghost use Rattle.ooo_code.specs.declared.node.NodeKind.TheVariants as node;
 ghost use Rattle.ooo_lower.specs.Changes.{events_of, is_event};
 ghost use Rattle.ooo_lower.specs.Scenes.{home_at};
-ghost use Rattle.ooo_shapes.specs.Expressions.{index_slot, kind_number, value_slot};
+ghost use Rattle.ooo_shapes.specs.Expressions.{converted, index_slot, kind_number, slot_of, value_slot};
 ghost use Rattle.ooo_shapes.specs.Shapes.{leave_kind, result_expr, return_kind};
 ghost use Rattle.ooo_shapes.specs.Simples.{aim_kind, channel_slot, current_expr, item_kind, lowered_wait};
 ghost use Rattle.ooo_shapes.specs.Simples.{put_at_kind, put_kind, wait_kind};
@@ -59,6 +61,52 @@ pub(crate) fn channel_slot(scene: Scene<'_>, channel: u32) -> u32
     value_slot(kind_of_channel(scene.known.model, channel))
 }
 
+/// A value goes to the slot of a local.
+pub(crate) fn set_kind(
+    alloc: Global,
+    t: Around,
+    kind: Kind,
+    slot: u32,
+    value: NodeExpr,
+) -> Result<NodeKind, AllocError>
+    ensures { IfOk result (λ k. k ≡ node.Set (slot_of t kind slot) (converted kind value)) }
+{
+    let value = converted(alloc, kind, value)?;
+    let slot = keeping!(value; slot_of(t, kind, slot));
+    Ok(NodeKind::Set(slot, value))
+}
+
+/// A value goes to a variable, or where there is an index to this element of it.
+pub(crate) fn store_kind(
+    alloc: Global,
+    scene: Scene<'_>,
+    variable: u32,
+    index: Option<NodeExpr>,
+    value: NodeExpr,
+) -> Result<NodeKind, AllocError>
+    ensures { IfOk result (λ k. k ≡ node.Store variable index
+        (converted (kind_of_variable scene.entry.known.model.now variable) value)) }
+{
+    let kind = kind_of_variable(scene.known.model, variable);
+    let value = keeping!(index; converted(alloc, kind, value));
+    Ok(NodeKind::Store(variable, index, value))
+}
+
+// A value goes to a signal.
+fn write_kind(
+    alloc: Global,
+    scene: Scene<'_>,
+    channel: u32,
+    value: NodeExpr,
+) -> Result<NodeKind, AllocError>
+    ensures { IfOk result (λ k. k ≡
+        node.Write channel (converted (channel_kind scene.entry.known.model.now channel) value)) }
+{
+    let kind = kind_of_channel(scene.known.model, channel);
+    let value = converted(alloc, kind, value)?;
+    Ok(NodeKind::Write(channel, value))
+}
+
 /// A value is put into a target, whose index is evaluated then.
 pub(crate) fn put_kind(
     alloc: Global,
@@ -72,23 +120,13 @@ pub(crate) fn put_kind(
 {
     match into {
         BoundTarget::Nothing => Ok(NodeKind::Test(value, next)),
-        BoundTarget::Local(kind, slot) => {
-            let slot = slot_of(t, *kind, *slot)?;
-            Ok(NodeKind::Set(slot, converted(alloc, *kind, value)?))
-        }
-        BoundTarget::Variable(variable) => {
-            let value = converted(alloc, kind_of_variable(scene.known.model, *variable), value)?;
-            Ok(NodeKind::Store(*variable, None, value))
-        }
+        BoundTarget::Local(kind, slot) => set_kind(alloc, t, *kind, *slot, value),
+        BoundTarget::Variable(variable) => store_kind(alloc, scene, *variable, None, value),
         BoundTarget::Element(variable, index) => {
-            let index = lowered(alloc, t, index)?;
-            let value = converted(alloc, kind_of_variable(scene.known.model, *variable), value)?;
-            Ok(NodeKind::Store(*variable, Some(index), value))
+            let index = keeping!(value; lowered(alloc, t, index));
+            store_kind(alloc, scene, *variable, Some(index), value)
         }
-        BoundTarget::Signal(channel) => {
-            let value = converted(alloc, kind_of_channel(scene.known.model, *channel), value)?;
-            Ok(NodeKind::Write(*channel, value))
-        }
+        BoundTarget::Signal(channel) => write_kind(alloc, scene, *channel, value),
     }
 }
 
@@ -106,8 +144,7 @@ pub(crate) fn put_at_kind(
     match into {
         BoundTarget::Element(variable, index) => {
             let index = NodeExpr::Slot(index_slot(kind_in(scene.known.model, index)));
-            let value = converted(alloc, kind_of_variable(scene.known.model, *variable), value)?;
-            Ok(NodeKind::Store(*variable, Some(index), value))
+            store_kind(alloc, scene, *variable, Some(index), value)
         }
         _ => put_kind(alloc, scene, t, into, value, next),
     }
@@ -235,7 +272,7 @@ pub(crate) fn lowered_wait(
     } else {
         wait.events.as_slice()
     };
-    let events = Items::from_slice(alloc, named)?;
+    let events = keeping!(time; Items::from_slice(alloc, named));
     Ok(NodeWait {
         time,
         events,

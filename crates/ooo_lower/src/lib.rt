@@ -1,11 +1,25 @@
 //! Lowering in code: the design of a bound model, node by node as `ooo_shapes` defines it.
 #![tactic(auto)]
 
+// What is made while values that were made before are kept: where nothing is, they go.
+macro_rules! keeping {
+    ($($kept:ident),+; $made:expr) => {
+        match $made {
+            Ok(found) => found,
+            Err(error) => {
+                $(crate::keeping::discard($kept);)+
+                return Err(error);
+            }
+        }
+    };
+}
+
 mod calls;
 mod code;
 mod designs;
 mod expressions;
 mod extents;
+mod keeping;
 mod kinds;
 mod kinds_of_nodes;
 mod numbers;

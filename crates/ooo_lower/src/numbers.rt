@@ -36,6 +36,13 @@ pub(crate) fn behind(at: u32, by: u32) -> Result<u32, AllocError>
     }
 }
 
+/// The place behind so many nodes. It is out of memory where 32 bits don't hold it.
+pub(crate) fn past(at: u32, size: u64) -> Result<u32, AllocError>
+    ensures { IfOk result (λ n. n ≡ at + size) }
+{
+    behind(at, narrow(size)?)
+}
+
 /// A number less another one. It is out of memory where there is none.
 pub(crate) fn less(a: u64, b: u64) -> Result<u64, AllocError>
     ensures { IfOk result (λ n. n + b ≡ a) }

@@ -1,17 +1,19 @@
 ghost use Rattle.std.specs.Prelude.{◌≡◌, [], ◌∷◌, length, IfOk, OnOk};
+ghost use Rattle.ooo_lower.specs.Changes.{events_of};
 ghost use Rattle.ooo_lower.specs.Codes.{Puts};
 ghost use Rattle.ooo_lower.specs.Parts.{element_update_nodes, fifo_value, updated_element, updated_expr};
 ghost use Rattle.ooo_lower.specs.Scenes.{home_at};
 ghost use Rattle.ooo_shapes.specs.Expressions.{lowered};
-ghost use Rattle.ooo_shapes.specs.Simples.{begins, counted, item_nodes, nb_read_nodes, nb_write_nodes, put_kind};
-ghost use Rattle.ooo_shapes.specs.Simples.{read_nodes, truth, uncounted, update_nodes, write_nodes};
+ghost use Rattle.ooo_shapes.specs.Simples.{aim_kind, begins, counted, item_nodes, nb_read_nodes, nb_write_nodes};
+ghost use Rattle.ooo_shapes.specs.Simples.{put_at_kind, put_kind, read_nodes, truth, uncounted, update_nodes};
+ghost use Rattle.ooo_shapes.specs.Simples.{wait_kind, write_nodes};
 
 use crate::code::Code;
 use crate::expressions::{converted, lowered};
-use crate::kinds::{kind_in, kind_of_channel, kind_of_variable};
+use crate::kinds::{kind_in, kind_of_channel};
 use crate::kinds_of_nodes::{
     Change, aim_kind, channel_slot, current_expr, index_slot, item_kind, put_at_kind, put_kind,
-    value_slot, wait_for,
+    store_kind, value_slot, wait_for,
 };
 use crate::numbers::behind;
 use crate::scene::Scene;
@@ -58,6 +60,37 @@ impl<'a> Site<'a> {
         )
     }
 
+    // A value is put into a target, as the last node of a statement.
+    fn put_into(
+        self,
+        code: &mut Code,
+        into: &BoundTarget,
+        value: NodeExpr,
+    ) -> Result<(), AllocError>
+        ensures { OnOk result (Puts (uncounted (put_kind (home_at self.entry.scene)
+            self.entry.spot.around into.now value self.entry.spot.next)
+            self.entry.spot.line self.entry.spot.next ∷ []) code.old code.new) }
+    {
+        let kind = self.put_kind(into, value)?;
+        code.put_uncounted(kind, self.spot.line, self.spot.next)
+    }
+
+    // A wait for a change of a fifo, behind which the code goes on there.
+    fn put_wait(
+        self,
+        code: &mut Code,
+        change: Change,
+        fifo: u32,
+        next: u32,
+    ) -> Result<(), AllocError>
+        ensures { OnOk result (Puts
+            (uncounted (wait_kind (events_of self.entry.scene.known.model.now change fifo))
+            self.entry.spot.line next ∷ []) code.old code.new) }
+    {
+        let wait = wait_for(self.alloc, self.scene, change, fifo)?;
+        code.put_uncounted(wait, self.spot.line, next)
+    }
+
     /// A value is put into a target.
     pub(crate) fn put_value(
         self,
@@ -90,16 +123,14 @@ impl<'a> Site<'a> {
     {
         let line = self.spot.line;
         let at = code.at()?;
-        let wait_at = behind(at, 1)?;
-        let take_at = behind(at, 2)?;
         let put_at = behind(at, 3)?;
+        let wait_at = at + 1;
+        let take_at = at + 2;
         let slot = channel_slot(self.scene, fifo);
         code.put_counted(NodeKind::TestAvailable(fifo, wait_at), line, take_at)?;
-        let wait = wait_for(self.alloc, self.scene, Change::Written, fifo)?;
-        code.put_uncounted(wait, line, at)?;
+        self.put_wait(code, Change::Written, fifo, at)?;
         code.put_uncounted(NodeKind::Take(fifo, slot), line, put_at)?;
-        let put = self.put_kind(into, NodeExpr::Slot(slot))?;
-        code.put_uncounted(put, line, self.spot.next)
+        self.put_into(code, into, NodeExpr::Slot(slot))
     }
 
     /// A blocking write: its value, test, wait, put (6.23).
@@ -116,15 +147,14 @@ impl<'a> Site<'a> {
     {
         let line = self.spot.line;
         let at = code.at()?;
-        let test_at = behind(at, 1)?;
-        let wait_at = behind(at, 2)?;
         let put_at = behind(at, 3)?;
+        let test_at = at + 1;
+        let wait_at = at + 2;
         let slot = channel_slot(self.scene, fifo);
         let set = self.fifo_value(fifo, e)?;
         code.put_uncounted(set, line, test_at)?;
         code.put_counted(NodeKind::TestFree(fifo, wait_at), line, put_at)?;
-        let wait = wait_for(self.alloc, self.scene, Change::Read, fifo)?;
-        code.put_uncounted(wait, line, test_at)?;
+        self.put_wait(code, Change::Read, fifo, test_at)?;
         let put = NodeKind::Put(fifo, NodeExpr::Slot(slot));
         code.put_uncounted(put, line, self.spot.next)
     }
@@ -146,8 +176,33 @@ impl<'a> Site<'a> {
             self.entry.spot.around into.now (truth is_true) self.entry.spot.next)
             self.entry.spot.line self.entry.spot.next ∷ []) code.old code.new) }
     {
-        let kind = self.put_kind(into, NodeExpr::Constant(Value::Bool(is_true)))?;
-        code.put_uncounted(kind, self.spot.line, self.spot.next)
+        self.put_into(code, into, NodeExpr::Constant(Value::Bool(is_true)))
+    }
+
+    // The index of a target is evaluated first.
+    fn put_aim(self, code: &mut Code, into: &BoundTarget, next: u32) -> Result<(), AllocError>
+        ensures { OnOk result
+            (Puts (counted (aim_kind (home_at self.entry.scene) self.entry.spot.around into.now)
+            self.entry.spot.line next ∷ []) code.old code.new) }
+    {
+        let aim = aim_kind(self.alloc, self.scene, self.spot.around, into)?;
+        code.put_counted(aim, self.spot.line, next)
+    }
+
+    // A value is put into a target whose index was evaluated before.
+    fn put_aimed(
+        self,
+        code: &mut Code,
+        into: &BoundTarget,
+        value: NodeExpr,
+        next: u32,
+    ) -> Result<(), AllocError>
+        ensures { OnOk result (Puts (uncounted (put_at_kind (home_at self.entry.scene)
+            self.entry.spot.around into.now value next)
+            self.entry.spot.line next ∷ []) code.old code.new) }
+    {
+        let put = put_at_kind(self.alloc, self.scene, self.spot.around, into, value, next)?;
+        code.put_uncounted(put, self.spot.line, next)
     }
 
     /// `nb_read`: the index of what is read into, test, take, put; and what the call gives, either way (6.23).
@@ -166,26 +221,16 @@ impl<'a> Site<'a> {
     {
         let line = self.spot.line;
         let at = code.at()?;
-        let test_at = behind(at, 1)?;
-        let take_at = behind(at, 2)?;
-        let put_at = behind(at, 3)?;
-        let true_at = behind(at, 4)?;
         let false_at = behind(at, 5)?;
+        let test_at = at + 1;
+        let take_at = at + 2;
+        let put_at = at + 3;
+        let true_at = at + 4;
         let slot = channel_slot(self.scene, fifo);
-        let aim = aim_kind(self.alloc, self.scene, self.spot.around, into)?;
-        code.put_counted(aim, line, test_at)?;
+        self.put_aim(code, into, test_at)?;
         code.put_uncounted(NodeKind::TestAvailable(fifo, false_at), line, take_at)?;
         code.put_uncounted(NodeKind::Take(fifo, slot), line, put_at)?;
-        let value = NodeExpr::Slot(slot);
-        let put = put_at_kind(
-            self.alloc,
-            self.scene,
-            self.spot.around,
-            into,
-            value,
-            true_at,
-        )?;
-        code.put_uncounted(put, line, true_at)?;
+        self.put_aimed(code, into, NodeExpr::Slot(slot), true_at)?;
         self.put_truth(code, given, true)?;
         self.put_truth(code, given, false)
     }
@@ -206,10 +251,10 @@ impl<'a> Site<'a> {
     {
         let line = self.spot.line;
         let at = code.at()?;
-        let test_at = behind(at, 1)?;
-        let put_at = behind(at, 2)?;
-        let true_at = behind(at, 3)?;
         let false_at = behind(at, 4)?;
+        let test_at = at + 1;
+        let put_at = at + 2;
+        let true_at = at + 3;
         let slot = channel_slot(self.scene, fifo);
         let set = self.fifo_value(fifo, e)?;
         code.put_counted(set, line, test_at)?;
@@ -237,8 +282,8 @@ impl<'a> Site<'a> {
     {
         let model = self.scene.known.model;
         let at = code.at()?;
-        let index_at = behind(at, 1)?;
         let store_at = behind(at, 2)?;
+        let index_at = at + 1;
         let value_slot = value_slot(kind_in(model, e));
         let index_slot = index_slot(kind_in(model, index));
         let value = lowered(self.alloc, self.spot.around, e)?;
@@ -246,8 +291,8 @@ impl<'a> Site<'a> {
         let index = lowered(self.alloc, self.spot.around, index)?;
         code.put_uncounted(NodeKind::Set(index_slot, index), self.spot.line, store_at)?;
         let value = updated_element(self.alloc, op, variable, index_slot, value_slot)?;
-        let value = converted(self.alloc, kind_of_variable(model, variable), value)?;
-        let store = NodeKind::Store(variable, Some(NodeExpr::Slot(index_slot)), value);
+        let index = NodeExpr::Slot(index_slot);
+        let store = store_kind(self.alloc, self.scene, variable, Some(index), value)?;
         code.put_uncounted(store, self.spot.line, self.spot.next)
     }
 
@@ -257,8 +302,8 @@ impl<'a> Site<'a> {
     {
         let current = current_expr(self.spot.around, into)?;
         let current = Boxed::new(self.alloc, current)?;
-        let value = lowered(self.alloc, self.spot.around, e)?;
-        let value = Boxed::new(self.alloc, value)?;
+        let value = keeping!(current; lowered(self.alloc, self.spot.around, e));
+        let value = keeping!(current; Boxed::new(self.alloc, value));
         Ok(NodeExpr::Binary(op, current, value))
     }
 
@@ -296,7 +341,7 @@ impl<'a> Site<'a> {
         let mut left = items.len();
         'parts: for item in items {
             left -= 1;
-            let after = behind(code.at()?, 1)?;
+            let after = code.after()?;
             let to = begins(left as u64, after, self.spot.next);
             let kind = item_kind(self.alloc, self.spot.around, item)?;
             code.put_uncounted(kind, self.spot.line, to)?;
@@ -317,7 +362,7 @@ fn updated_element(
 {
     let index = Boxed::new(alloc, NodeExpr::Slot(index))?;
     let element = Boxed::new(alloc, NodeExpr::Element(variable, index))?;
-    let value = Boxed::new(alloc, NodeExpr::Slot(value))?;
+    let value = keeping!(element; Boxed::new(alloc, NodeExpr::Slot(value)));
     Ok(NodeExpr::Binary(op, element, value))
 }
 

@@ -126,36 +126,26 @@ fn weigh_stat(w: &mut Weight, stat: &BoundStat) -> Result<(), AllocError>
     ensures { OnOk result (Weighs (λ sizes. stat_size sizes stat.now) w.old w.new) }
 {
     match stat {
-        BoundStat::Block(body) => {
-            weigh_body(w, body.as_slice())?;
-            Ok(())
-        }
-        BoundStat::Simple(part) => {
-            weigh_simple(w, &part.get().simple)?;
-            Ok(())
-        }
+        BoundStat::Block(body) => weigh_body(w, body.as_slice()),
+        BoundStat::Simple(part) => weigh_simple(w, &part.get().simple),
         BoundStat::If(_, _, yes, no) => {
-            w.count(1)?;
             weigh_stat(w, yes.get())?;
             weigh_else(w, no)?;
-            Ok(())
+            w.count(1)
         }
         BoundStat::While(_, _, body) => {
-            w.count(1)?;
             weigh_stat(w, body.get())?;
-            Ok(())
+            w.count(1)
         }
         BoundStat::Do(_, body, _) => {
             weigh_stat(w, body.get())?;
-            w.count(1)?;
-            Ok(())
+            w.count(1)
         }
         BoundStat::For(_, begin, _, after, body) => {
             weigh_simples(w, begin.as_slice())?;
-            w.count(1)?;
             weigh_after(w, after)?;
             weigh_stat(w, body.get())?;
-            Ok(())
+            w.count(1)
         }
         BoundStat::Break(_) | BoundStat::Continue(_) | BoundStat::Return(_, _) => {
             w.count(1)?;

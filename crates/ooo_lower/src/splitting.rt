@@ -7,7 +7,7 @@ ghost use Rattle.ooo_shapes.specs.Shapes.{lined_shapes, loop_shape, shape_of, te
 ghost use Rattle.ooo_shapes.specs.Simples.{Home};
 
 use crate::extents::{body_size, else_size, lined_size, lineds_size, stat_size};
-use crate::numbers::{behind, less, narrow, sum};
+use crate::numbers::{behind, less, past, sum};
 use crate::simples::{Site, Spot, begins};
 use crate::tasks::{Loop, Part, Task, Test};
 use ooo_bound::{BoundExpr, BoundStat, LinedSimple};
@@ -44,7 +44,7 @@ fn inside(t: Around, break_to: u32, continue_to: u32) -> Around
 fn rest_at(at: u32, whole: u64, rest: u64) -> Result<u32, AllocError>
     ensures { IfOk result (λ n. n + rest ≡ at + whole) }
 {
-    behind(at, narrow(less(whole, rest)?)?)
+    past(at, less(whole, rest)?)
 }
 
 // The statement after `else` is put next, if there is one.
@@ -61,8 +61,7 @@ fn push_else<'a>(
         None => Ok(()),
         Some(stat) => {
             let stat = stat.get();
-            push(tasks, Part::Stat(stat), spot)?;
-            Ok(())
+            push(tasks, Part::Stat(stat), spot)
         }
     }
 }
@@ -120,14 +119,8 @@ impl<'a> Site<'a> {
             tasks.old tasks.new) }
     {
         match body {
-            [only] => {
-                push(tasks, Part::Stat(only), self.spot)?;
-                Ok(())
-            }
-            _ => {
-                self.split_stats(tasks, at, body)?;
-                Ok(())
-            }
+            [only] => push(tasks, Part::Stat(only), self.spot),
+            _ => self.split_stats(tasks, at, body),
         }
     }
 
@@ -177,15 +170,13 @@ impl<'a> Site<'a> {
     {
         let yes_at = behind(at, 1)?;
         let yes_size = stat_size(self.scene, self.spot.depth, yes)?;
-        let no_at = behind(yes_at, narrow(yes_size)?)?;
+        let no_at = past(yes_at, yes_size)?;
         let no_size = else_size(self.scene, self.spot.depth, no)?;
         let yes_to = begins(yes_size, yes_at, self.spot.next);
         let no_to = begins(no_size, no_at, self.spot.next);
         push_else(tasks, self.spot, no)?;
         push(tasks, Part::Stat(yes), self.spot)?;
-        let test = Part::Test(Test::Of(test), no_to, yes_to);
-        push(tasks, test, self.spot)?;
-        Ok(())
+        push(tasks, Part::Test(Test::Of(test), no_to, yes_to), self.spot)
     }
 
     /// A `do`: its body and its test.
@@ -202,7 +193,7 @@ impl<'a> Site<'a> {
             tasks.old tasks.new) }
     {
         let size = stat_size(self.scene, self.spot.depth, body)?;
-        let test_at = behind(at, narrow(size)?)?;
+        let test_at = past(at, size)?;
         let t = inside(self.spot.around, self.spot.next, test_at);
         let within = Spot {
             around: t,
@@ -211,8 +202,7 @@ impl<'a> Site<'a> {
         };
         let test = Part::Test(Test::Of(test), self.spot.next, at);
         push(tasks, test, self.spot)?;
-        push(tasks, Part::Stat(body), within)?;
-        Ok(())
+        push(tasks, Part::Stat(body), within)
     }
 
     // The test of a loop and its body, behind which a turn goes on at `again`.
@@ -239,8 +229,7 @@ impl<'a> Site<'a> {
             ..self.spot
         };
         push(tasks, Part::Stat(body), within)?;
-        push(tasks, Part::Test(test, self.spot.next, yes), self.spot)?;
-        Ok(())
+        push(tasks, Part::Test(test, self.spot.next, yes), self.spot)
     }
 
     /// A loop without anything before its test.
@@ -256,8 +245,7 @@ impl<'a> Site<'a> {
             loop_shape self.entry.spot.line (tested test.entry) None (shape_of h callees body.now))
             tasks.old tasks.new) }
     {
-        self.push_turn(tasks, at, test, at, body)?;
-        Ok(())
+        self.push_turn(tasks, at, test, at, body)
     }
 
     // A loop in which this follows each turn.
@@ -277,7 +265,7 @@ impl<'a> Site<'a> {
     {
         let step_at = behind(at, 1)?;
         let size = lined_size(self.scene, self.spot.depth, after)?;
-        let test_at = behind(step_at, narrow(size)?)?;
+        let test_at = past(step_at, size)?;
         let again = begins(size, step_at, test_at);
         let step = Spot {
             next: test_at,
@@ -285,8 +273,7 @@ impl<'a> Site<'a> {
         };
         self.push_turn(tasks, test_at, test, again, body)?;
         push(tasks, Part::Simple(after), step)?;
-        push(tasks, Part::Pass, step)?;
-        Ok(())
+        push(tasks, Part::Pass, step)
     }
 
     // The loop of a `for`.
@@ -302,15 +289,8 @@ impl<'a> Site<'a> {
     {
         let Loop { test, after, body } = looped;
         match after {
-            None => {
-                self.split_plain_loop(tasks, at, test, body)?;
-                Ok(())
-            }
-            Some(after) => {
-                let after = after.get();
-                self.split_stepped_loop(tasks, at, test, after, body)?;
-                Ok(())
-            }
+            None => self.split_plain_loop(tasks, at, test, body),
+            Some(after) => self.split_stepped_loop(tasks, at, test, after.get(), body),
         }
     }
 
@@ -328,13 +308,12 @@ impl<'a> Site<'a> {
             (looped_shape h callees self.entry.spot.line looped.entry)) tasks.old tasks.new) }
     {
         let size = lineds_size(self.scene, self.spot.depth, begin)?;
-        let loop_at = behind(at, narrow(size)?)?;
+        let loop_at = past(at, size)?;
         let first = Spot {
             next: loop_at,
             ..self.spot
         };
         self.split_loop(tasks, loop_at, looped)?;
-        push(tasks, Part::Simples(begin), first)?;
-        Ok(())
+        push(tasks, Part::Simples(begin), first)
     }
 }

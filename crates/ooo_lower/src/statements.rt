@@ -1,16 +1,18 @@
-ghost use Rattle.std.specs.Prelude.{◌≡◌, ◌+◌, [], ◌∷◌, Some, false, length, IfOk, MatchOption, OnOk};
+ghost use Rattle.std.specs.Prelude.{◌≡◌, ◌+◌, [], ◌∷◌, None, Some, false, length, IfOk, MatchOption, OnOk};
 ghost use Rattle.ooo_code.specs.declared.node.NodeKind.TheVariants as kind;
 ghost use Rattle.ooo_bound.specs.declared.stat.BoundRight.TheVariants as bound_right;
 ghost use Rattle.ooo_bound.specs.declared.stat.BoundSimple.TheVariants as bound_simple;
 ghost use Rattle.ooo_lower.specs.Codes.{Emits, Puts};
-ghost use Rattle.ooo_lower.specs.Extents.{IsKnown};
+ghost use Rattle.ooo_lower.specs.Extents.{IsKnown, else_shape};
 ghost use Rattle.ooo_lower.specs.Parts.{one_kind};
 ghost use Rattle.ooo_lower.specs.Scenes.{home_at};
+ghost use Rattle.ooo_lower.specs.Calls.{IsPlaced};
 ghost use Rattle.ooo_lower.specs.Tasks.{EmitsAt, Takes, gives_call, is_call, leave_shape, one_node};
-ghost use Rattle.ooo_lower.specs.Tasks.{part_shape, pass_shape, test_shape, tested};
+ghost use Rattle.ooo_lower.specs.Tasks.{looped_shape, part_shape, pass_shape, test_shape, tested};
 ghost use Rattle.ooo_shapes.specs.Expressions.{lowered};
-ghost use Rattle.ooo_shapes.specs.Shapes.{Callees, assign_shape, body_shape, call_shape, lined_shape};
-ghost use Rattle.ooo_shapes.specs.Shapes.{print_shape, return_kind, shape_of, shape_within, simple_shape};
+ghost use Rattle.ooo_shapes.specs.Shapes.{Callees, assign_shape, body_shape, call_shape, do_shape, if_shape};
+ghost use Rattle.ooo_shapes.specs.Shapes.{lined_shape, lined_shapes, loop_shape, print_shape, return_kind};
+ghost use Rattle.ooo_shapes.specs.Shapes.{shape_of, shape_within, simple_shape, then};
 ghost use Rattle.ooo_shapes.specs.Simples.{counted};
 
 use crate::calls::{frame_of, leave_kind, push_kinds, put_arguments, put_zeros};
@@ -18,7 +20,7 @@ use crate::code::Code;
 use crate::expressions::{lowered, lowered_time};
 use crate::extents::{body_size, call_slots, callee, given};
 use crate::kinds_of_nodes::{lowered_wait, return_kind};
-use crate::numbers::{behind, narrow};
+use crate::numbers::past;
 use crate::simples::{Site, Spot, begins};
 use crate::splitting::{push, test_of};
 use crate::tasks::{Loop, Part, Task, Test};
@@ -40,6 +42,14 @@ pub(crate) struct CallIn<'a> {
     args: &'a [BoundExpr],
 }
 
+// Where a call goes: its first slot, the node behind its first one, and the node behind its body.
+#[derive(Clone, Copy)]
+pub(crate) struct CallPlaces {
+    free: u32,
+    first: u32,
+    leave: u32,
+}
+
 // The call that a statement is, if it is one.
 fn call_in<'a>(simple: &'a BoundSimple) -> Option<CallIn<'a>>
     ensures { MatchOption result (is_call simple.now ≡ false) (λ c.
@@ -59,15 +69,13 @@ fn call_in<'a>(simple: &'a BoundSimple) -> Option<CallIn<'a>>
 }
 
 // The value of a test.
+#[tactic(auto, unfolding(ooo_shapes::specs::Expressions::lowered))]
 fn tested(alloc: Global, t: Around, test: Test<'_>) -> Result<NodeExpr, AllocError>
     ensures { IfOk result (λ v. v ≡ lowered t (tested test.entry)) }
 {
     match test {
         Test::Of(test) => lowered(alloc, t, test),
-        Test::Always => {
-            let always = BoundExpr::Constant(Value::Bool(true));
-            lowered(alloc, t, &always)
-        }
+        Test::Always => Ok(NodeExpr::Constant(Value::Bool(true))),
     }
 }
 
@@ -78,11 +86,10 @@ impl<'a> Site<'a> {
             (EmitsAt self.entry.spot (print_shape self.entry.spot.line items.now)
             code.old code.new) }
     {
-        let after = behind(code.at()?, 1)?;
+        let after = code.after()?;
         let to = begins(items.len() as u64, after, self.spot.next);
         code.put_counted(NodeKind::Goto, self.spot.line, to)?;
-        self.put_items(code, items)?;
-        Ok(())
+        self.put_items(code, items)
     }
 
     // A statement of one node.
@@ -193,6 +200,25 @@ impl<'a> Site<'a> {
         }
     }
 
+    // Where the parts of a call go.
+    fn call_places(
+        self,
+        code: &Code,
+        function: &BoundFunction,
+        args: &[BoundExpr],
+    ) -> Result<CallPlaces, AllocError>
+        requires { IsKnown self.scene.known }
+        ensures { IfOk result (λ p. IsPlaced self.entry code.now function.now args.now p) }
+    {
+        let free = code.free()?;
+        let first = code.after()?;
+        let args_at = past(first, call_slots(function)?)?;
+        let body_at = past(args_at, given(function, args))?;
+        let size = body_size(self.scene, self.spot.depth, function.body.as_slice())?;
+        let leave = past(body_at, size)?;
+        Ok(CallPlaces { free, first, leave })
+    }
+
     // What stands before the body of a called function; the body and the way of the result are put next.
     fn begin_call(
         self,
@@ -209,30 +235,21 @@ impl<'a> Site<'a> {
               body = body_shape h callees function.now.body;
             }))) tasks.old tasks.new code.old code.new) }
     {
-        let Site { alloc, scene, spot } = self;
-        let CallIn { into, args, .. } = call;
-        let body = function.body.as_slice();
-        let free = code.free()?;
-        let goto_at = behind(code.at()?, 1)?;
-        let zeros = narrow(call_slots(function)?)?;
-        let given = narrow(given(function, args))?;
-        let args_at = behind(goto_at, zeros)?;
-        let body_at = behind(args_at, given)?;
-        let size = body_size(scene, spot.depth, body)?;
-        let leave = behind(body_at, narrow(size)?)?;
-        let u = frame_of(function, free, leave)?;
-        code.put_counted(NodeKind::Goto, spot.line, goto_at)?;
+        let places = self.call_places(code, function, call.args)?;
+        let u = frame_of(function, places.free, places.leave)?;
+        let params = function.params.as_slice();
+        code.put_counted(NodeKind::Goto, self.spot.line, places.first)?;
         push_kinds(code, function)?;
-        put_zeros(code, spot.line, free)?;
-        put_arguments(alloc, code, spot, u, function.params.as_slice(), args)?;
-        push(tasks, Part::Leave(into, function.result, free), spot)?;
+        put_zeros(code, self.spot.line, places.free)?;
+        put_arguments(self.alloc, code, self.spot, u, params, call.args)?;
+        let leave = Part::Leave(call.into, function.result, places.free);
+        push(tasks, leave, self.spot)?;
         let inner = Spot {
             around: u,
-            next: leave,
-            ..spot
+            next: places.leave,
+            ..self.spot
         };
-        push(tasks, Part::Body(body), inner)?;
-        Ok(())
+        push(tasks, Part::Body(function.body.as_slice()), inner)
     }
 
     // A call of a function.
@@ -255,8 +272,7 @@ impl<'a> Site<'a> {
                     ..self.spot
                 };
                 let inner = Site { spot, ..self };
-                inner.begin_call(code, tasks, call, function)?;
-                Ok(())
+                inner.begin_call(code, tasks, call, function)
             }
         }
     }
@@ -278,14 +294,8 @@ impl<'a> Site<'a> {
         };
         let lined = Site { spot, ..self };
         match call_in(&x.simple) {
-            None => {
-                lined.emit_simple(code, &x.simple)?;
-                Ok(())
-            }
-            Some(call) => {
-                lined.take_call(code, tasks, call)?;
-                Ok(())
-            }
+            None => lined.emit_simple(code, &x.simple),
+            Some(call) => lined.take_call(code, tasks, call),
         }
     }
 
@@ -340,6 +350,83 @@ impl<'a> Site<'a> {
         Ok(())
     }
 
+    // An `if`.
+    fn take_if(
+        self,
+        code: &Code,
+        tasks: &mut Items<Task<'a>>,
+        line: u32,
+        test: &'a BoundExpr,
+        yes: &'a BoundStat,
+        no: &'a Option<Boxed<BoundStat>>,
+    ) -> Result<(), AllocError>
+        requires { IsKnown self.scene.known }
+        ensures { OnOk result (Takes self.entry (λ h callees.
+            if_shape line test.now (shape_of h callees yes.now) (else_shape h callees no.now))
+            tasks.old tasks.new code.now code.now) }
+    {
+        let at = code.at()?;
+        let spot = Spot { line, ..self.spot };
+        Site { spot, ..self }.split_if(tasks, at, test, yes, no)
+    }
+
+    // A `while`.
+    fn take_while(
+        self,
+        code: &Code,
+        tasks: &mut Items<Task<'a>>,
+        line: u32,
+        test: &'a BoundExpr,
+        body: &'a BoundStat,
+    ) -> Result<(), AllocError>
+        requires { IsKnown self.scene.known }
+        ensures { OnOk result (Takes self.entry (λ h callees.
+            loop_shape line test.now None (shape_of h callees body.now))
+            tasks.old tasks.new code.now code.now) }
+    {
+        let at = code.at()?;
+        let spot = Spot { line, ..self.spot };
+        Site { spot, ..self }.split_plain_loop(tasks, at, Test::Of(test), body)
+    }
+
+    // A `do`.
+    fn take_do(
+        self,
+        code: &Code,
+        tasks: &mut Items<Task<'a>>,
+        line: u32,
+        body: &'a BoundStat,
+        test: &'a BoundExpr,
+    ) -> Result<(), AllocError>
+        requires { IsKnown self.scene.known }
+        ensures { OnOk result (Takes self.entry (λ h callees.
+            do_shape line test.now (shape_of h callees body.now))
+            tasks.old tasks.new code.now code.now) }
+    {
+        let at = code.at()?;
+        let spot = Spot { line, ..self.spot };
+        Site { spot, ..self }.split_do(tasks, at, body, test)
+    }
+
+    // A `for`.
+    fn take_for(
+        self,
+        code: &Code,
+        tasks: &mut Items<Task<'a>>,
+        line: u32,
+        begin: &'a [LinedSimple],
+        looped: Loop<'a>,
+    ) -> Result<(), AllocError>
+        requires { IsKnown self.scene.known }
+        ensures { OnOk result (Takes self.entry (λ h callees.
+            then (lined_shapes h callees begin.now) (looped_shape h callees line looped.entry))
+            tasks.old tasks.new code.now code.now) }
+    {
+        let at = code.at()?;
+        let spot = Spot { line, ..self.spot };
+        Site { spot, ..self }.split_for(tasks, at, begin, looped)
+    }
+
     // A statement.
     fn take_stat(
         self,
@@ -352,75 +439,59 @@ impl<'a> Site<'a> {
             tasks.old tasks.new code.old code.new) }
     {
         match stat {
-            BoundStat::Block(body) => {
-                let body = body.as_slice();
-                push(tasks, Part::Body(body), self.spot)?;
-                Ok(())
-            }
-            BoundStat::Simple(x) => {
-                let x = x.get();
-                push(tasks, Part::Simple(x), self.spot)?;
-                Ok(())
-            }
-            BoundStat::Break(line) => {
-                self.put_jump(code, *line, self.spot.around.break_to)?;
-                Ok(())
-            }
-            BoundStat::Continue(line) => {
-                self.put_jump(code, *line, self.spot.around.continue_to)?;
-                Ok(())
-            }
-            BoundStat::Return(line, value) => {
-                self.put_return(code, *line, value)?;
-                Ok(())
-            }
+            BoundStat::Block(body) => push(tasks, Part::Body(body.as_slice()), self.spot),
+            BoundStat::Simple(x) => push(tasks, Part::Simple(x.get()), self.spot),
+            BoundStat::Break(line) => self.put_jump(code, *line, self.spot.around.break_to),
+            BoundStat::Continue(line) => self.put_jump(code, *line, self.spot.around.continue_to),
+            BoundStat::Return(line, value) => self.put_return(code, *line, value),
             BoundStat::If(line, test, yes, no) => {
-                let at = code.at()?;
-                let spot = Spot {
-                    line: *line,
-                    ..self.spot
-                };
-                let test = test.get();
-                let yes = yes.get();
-                Site { spot, ..self }.split_if(tasks, at, test, yes, no)?;
-                Ok(())
+                self.take_if(code, tasks, *line, test.get(), yes.get(), no)
             }
             BoundStat::While(line, test, body) => {
-                let at = code.at()?;
-                let spot = Spot {
-                    line: *line,
-                    ..self.spot
-                };
-                let test = test.get();
-                let body = body.get();
-                Site { spot, ..self }.split_plain_loop(tasks, at, Test::Of(test), body)?;
-                Ok(())
+                self.take_while(code, tasks, *line, test.get(), body.get())
             }
             BoundStat::Do(line, body, test) => {
-                let at = code.at()?;
-                let spot = Spot {
-                    line: *line,
-                    ..self.spot
-                };
-                let body = body.get();
-                let test = test.get();
-                Site { spot, ..self }.split_do(tasks, at, body, test)?;
-                Ok(())
+                self.take_do(code, tasks, *line, body.get(), test.get())
             }
             BoundStat::For(line, begin, test, after, body) => {
-                let at = code.at()?;
-                let spot = Spot {
-                    line: *line,
-                    ..self.spot
+                let looped = Loop {
+                    test: test_of(test),
+                    after,
+                    body: body.get(),
                 };
-                let begin = begin.as_slice();
-                let test = test_of(test);
-                let body = body.get();
-                let looped = Loop { test, after, body };
-                Site { spot, ..self }.split_for(tasks, at, begin, looped)?;
-                Ok(())
+                self.take_for(code, tasks, *line, begin.as_slice(), looped)
             }
         }
+    }
+
+    // The statements of a body.
+    fn take_body(
+        self,
+        code: &Code,
+        tasks: &mut Items<Task<'a>>,
+        body: &'a [BoundStat],
+    ) -> Result<(), AllocError>
+        requires { IsKnown self.scene.known }
+        ensures { OnOk result (Takes self.entry (λ h callees. body_shape h callees body.now)
+            tasks.old tasks.new code.now code.now) }
+    {
+        let at = code.at()?;
+        self.split_body(tasks, at, body)
+    }
+
+    // Statements without statements in them.
+    fn take_simples(
+        self,
+        code: &Code,
+        tasks: &mut Items<Task<'a>>,
+        xs: &'a [LinedSimple],
+    ) -> Result<(), AllocError>
+        requires { IsKnown self.scene.known }
+        ensures { OnOk result (Takes self.entry (λ h callees. lined_shapes h callees xs.now)
+            tasks.old tasks.new code.now code.now) }
+    {
+        let at = code.at()?;
+        self.split_simples(tasks, at, xs)
     }
 
     // Puts a part, or what stands first in it; the rest of it is put next.
@@ -436,36 +507,13 @@ impl<'a> Site<'a> {
             tasks.old tasks.new code.old code.new) }
     {
         match part {
-            Part::Body(body) => {
-                let at = code.at()?;
-                self.split_body(tasks, at, body)?;
-                Ok(())
-            }
-            Part::Stat(stat) => {
-                self.take_stat(code, tasks, stat)?;
-                Ok(())
-            }
-            Part::Simples(xs) => {
-                let at = code.at()?;
-                self.split_simples(tasks, at, xs)?;
-                Ok(())
-            }
-            Part::Simple(x) => {
-                self.take_simple(code, tasks, x)?;
-                Ok(())
-            }
-            Part::Pass => {
-                self.put_pass(code)?;
-                Ok(())
-            }
-            Part::Test(test, no, yes) => {
-                self.put_test(code, test, no, yes)?;
-                Ok(())
-            }
-            Part::Leave(into, result, free) => {
-                self.put_leave(code, into, result, free)?;
-                Ok(())
-            }
+            Part::Body(body) => self.take_body(code, tasks, body),
+            Part::Stat(stat) => self.take_stat(code, tasks, stat),
+            Part::Simples(xs) => self.take_simples(code, tasks, xs),
+            Part::Simple(x) => self.take_simple(code, tasks, x),
+            Part::Pass => self.put_pass(code),
+            Part::Test(test, no, yes) => self.put_test(code, test, no, yes),
+            Part::Leave(into, result, free) => self.put_leave(code, into, result, free),
         }
     }
 }

@@ -1,5 +1,3 @@
-use Rattle.std.proofs.Common.{subst}
-use Rattle.ooo_lower.specs.Extents.{AreExtents}
 use Rattle.ooo_lower.proofs.Measured.{more_known}
 use Rattle.ooo_lower.proofs.extents.find_extent.Goals as goal
 

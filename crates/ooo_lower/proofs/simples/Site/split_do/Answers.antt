@@ -1,3 +1,4 @@
+use Rattle.std.proofs.lemmas.Result.{on_ok_weaker}
 use Rattle.ooo_lower.specs.Scenes.{home_at}
 use Rattle.ooo_lower.specs.Tasks.{left_of}
 use Rattle.ooo_lower.proofs.Apart.{do_split}
@@ -8,4 +9,6 @@ pub returns : goal.returns
 returns c =
     let home = home_at c.args.self.scene in
     let callees = callees_within c.args.self.spot.depth home in
-    do_split c.args.self.spot.line c.args.test.now (shape_of home callees c.args.body.now) c.args.self.spot.around _ _ c.args.self.spot.next c.args.at _ _ (left_of home c.args.tasks.now) (left_of home c.push.new.tasks) (left_of home c.push-2.new.tasks) c.in_ok-size.ensures c.in_ok-narrow.ensures c.in_ok-test_at.ensures c.inside-t.ensures (c.in_ok-push.ensures home) (c.in_ok-push-2.ensures home)
+    on_ok_weaker c.push-2.result
+    (do_split c.args.self.spot.line c.args.test.now (shape_of home callees c.args.body.now) c.args.self.spot.around _ _ c.args.self.spot.next c.args.at _ (left_of home c.args.tasks.now) (left_of home c.push.new.tasks) (left_of home c.push-2.new.tasks) c.in_ok-size.ensures c.in_ok-test_at.ensures c.inside-t.ensures (c.in_ok-push.ensures home))
+    (c.push-2.ensures home)

@@ -1,4 +1,5 @@
 use Rattle.std.proofs.Common.{arith}
+use Rattle.std.proofs.lemmas.Result.{on_ok_weaker}
 use Rattle.ooo_lower.specs.Scenes.{home_at}
 use Rattle.ooo_lower.specs.Tasks.{left_of, looped_shape}
 use Rattle.ooo_lower.proofs.Apart.{for_split}
@@ -9,4 +10,6 @@ pub returns : goal.returns
 returns c =
     let home = home_at c.args.self.scene in
     let callees = callees_within c.args.self.spot.depth home in
-    for_split (lined_shapes home callees c.args.begin.now) (looped_shape home callees c.args.self.spot.line c.args.looped) c.args.self.spot.around c.in_ok-loop_at.loop_at c.args.self.spot.next c.args.at _ _ (left_of home c.args.tasks.now) (left_of home c.split_loop.new.tasks) (left_of home c.push.new.tasks) (omega arith) c.in_ok-size.ensures c.in_ok-narrow.ensures c.in_ok-loop_at.ensures c.in_ok-split_loop.ensures (c.in_ok-push.ensures home)
+    on_ok_weaker c.push.result
+    (for_split (lined_shapes home callees c.args.begin.now) (looped_shape home callees c.args.self.spot.line c.args.looped) c.args.self.spot.around c.in_ok-loop_at.loop_at c.args.self.spot.next c.args.at _ (left_of home c.args.tasks.now) (left_of home c.split_loop.new.tasks) (left_of home c.push.new.tasks) (omega arith) c.in_ok-size.ensures c.in_ok-loop_at.ensures c.in_ok-split_loop.ensures)
+    (c.push.ensures home)

@@ -1,3 +1,4 @@
+use Rattle.std.proofs.lemmas.Result.{on_ok_weaker}
 use Rattle.ooo_lower.specs.Extents.{else_shape}
 use Rattle.ooo_lower.specs.Scenes.{home_at}
 use Rattle.ooo_lower.specs.Tasks.{left_of}
@@ -9,4 +10,6 @@ pub returns : goal.returns
 returns c =
     let home = home_at c.args.self.scene in
     let callees = callees_within c.args.self.spot.depth home in
-    if_split c.args.self.spot.line c.args.test.now (shape_of home callees c.args.yes.now) (else_shape home callees c.args.no.now) c.args.self.spot.around _ _ c.args.self.spot.next c.args.at _ _ _ _ _ (left_of home c.args.tasks.now) (left_of home c.push_else.new.tasks) (left_of home c.push.new.tasks) (left_of home c.push-2.new.tasks) c.in_ok-yes_at.ensures c.in_ok-yes_size.ensures c.in_ok-narrow.ensures c.in_ok-no_at.ensures c.in_ok-no_size.ensures c.begins-yes_to.ensures c.begins-no_to.ensures (λ p. c.in_ok-push_else.ensures home p) (c.in_ok-push.ensures home) (c.in_ok-push-2.ensures home)
+    on_ok_weaker c.push-2.result
+    (if_split c.args.self.spot.line c.args.test.now (shape_of home callees c.args.yes.now) (else_shape home callees c.args.no.now) c.args.self.spot.around _ _ c.args.self.spot.next c.args.at _ _ _ _ (left_of home c.args.tasks.now) (left_of home c.push_else.new.tasks) (left_of home c.push.new.tasks) (left_of home c.push-2.new.tasks) c.in_ok-yes_at.ensures c.in_ok-yes_size.ensures c.in_ok-no_at.ensures c.in_ok-no_size.ensures c.begins-yes_to.ensures c.begins-no_to.ensures (λ p. c.in_ok-push_else.ensures home p) (c.in_ok-push.ensures home))
+    (c.push-2.ensures home)

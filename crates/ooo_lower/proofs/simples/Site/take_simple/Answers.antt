@@ -1,4 +1,5 @@
 use Rattle.std.proofs.Common.{ap}
+use Rattle.std.proofs.lemmas.Result.{on_ok_weaker}
 use Rattle.ooo_lower.specs.Scenes.{home_at}
 use Rattle.ooo_lower.specs.Tasks.{left_of}
 use Rattle.ooo_lower.proofs.Left.{goes_put}
@@ -6,15 +7,18 @@ use Rattle.ooo_lower.proofs.Stated.{goes_as}
 use Rattle.ooo_shapes.specs.Shapes.{callees_within, simple_shape}
 use Rattle.ooo_lower.proofs.simples.Site.take_simple.Goals as goal
 
-pub returns-in_ok-emit_simple-in-None : goal.returns-in_ok-emit_simple-in-None
-returns-in_ok-emit_simple-in-None c =
+pub returns-in-None : goal.returns-in-None
+returns-in-None c =
     let home = home_at c.args.self.scene in
-    goes_put _ c.args.self.spot.around c.args.self.spot.next (left_of home c.args.tasks.now) c.args.code.now c.emit_simple.new.code (c.in_ok-emit_simple-in-None.ensures (callees_within c.args.self.spot.depth home))
+    on_ok_weaker c.emit_simple.result
+    (goes_put _ c.args.self.spot.around c.args.self.spot.next (left_of home c.args.tasks.now) c.args.code.now c.emit_simple.new.code)
+    (c.emit_simple.ensures (callees_within c.args.self.spot.depth home))
 
-pub returns-in_ok-take_call-in-Some : goal.returns-in_ok-take_call-in-Some
-returns-in_ok-take_call-in-Some c =
+pub returns-in-Some : goal.returns-in-Some
+returns-in-Some c =
     let home = home_at c.args.self.scene in
     let callees = callees_within c.args.self.spot.depth home in
-    goes_as _ _ c.args.self.spot.around c.args.self.spot.next (left_of home c.args.tasks.now) _ c.args.code.now _
-    (ap (simple_shape home callees c.args.x.now.line) c.in-Some.ensures)
-    c.in_ok-take_call-in-Some.ensures
+    on_ok_weaker c.take_call.result
+    (goes_as _ _ c.args.self.spot.around c.args.self.spot.next (left_of home c.args.tasks.now) _ c.args.code.now _
+    (ap (simple_shape home callees c.args.x.now.line) c.in-Some.ensures))
+    c.take_call.ensures

@@ -1,0 +1,10 @@
+use Rattle.std.proofs.lemmas.Result.{on_ok_weaker}
+use Rattle.ooo_lower.specs.Scenes.{home_at}
+use Rattle.ooo_lower.specs.Tasks.{left_of}
+use Rattle.ooo_lower.proofs.Left.{goes_split}
+use Rattle.ooo_lower.proofs.simples.Site.take_simples.Goals as goal
+
+pub returns : goal.returns
+returns c =
+    let home = home_at c.args.self.scene in
+    on_ok_weaker c.split_simples.result (goes_split _ (left_of home c.split_simples.new.tasks) c.in_ok-at.at c.args.code.now c.in_ok-at.ensures) c.split_simples.ensures
