@@ -47,12 +47,12 @@ step_on_time c x o = go (is_on c o.effect) where
   go true = subst (λ s. ¬ IsBefore s x.stamp) (sym (stamp-cycle_at o.at x)) (moved (earlier_or_not x.stamp o.at))
   go false = IsBefore-irrefl x.stamp
 
-steps_on_time : (c : ℕ) (x : Cycle) (os : List Operation) → ¬ IsBefore (fold (cycle_step c) x os).stamp x.stamp
+pub steps_on_time : (c : ℕ) (x : Cycle) (os : List Operation) → ¬ IsBefore (fold (cycle_step c) x os).stamp x.stamp
 steps_on_time c x [] = IsBefore-irrefl x.stamp
 steps_on_time c x (o ∷ os) = not_before-trans x.stamp (cycle_step c x o).stamp (fold (cycle_step c) (cycle_step c x o) os).stamp (step_on_time c x o) (steps_on_time c (cycle_step c x o) os)
 
 -- an operation on a channel isn't after the cycle in which it leaves it
-on_time : (x : Cycle) (o : Operation) → ¬ IsBefore (cycle_after x o).stamp o.at
+pub on_time : (x : Cycle) (o : Operation) → ¬ IsBefore (cycle_after x o).stamp o.at
 on_time x o = subst (λ s. ¬ IsBefore s o.at) (sym (stamp-cycle_at o.at x)) (go (earlier_or_not x.stamp o.at)) where
   go : {b : Bool} → Earlier x.stamp o.at b → ¬ IsBefore (cond b o.at x.stamp) o.at
   go (earlier h) = IsBefore-irrefl o.at

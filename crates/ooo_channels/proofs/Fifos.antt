@@ -23,12 +23,12 @@ later_channel-fifo at x f is = ap (λ c. later_channel at (record { stamp = x.st
   go true = refl
   go false = ap (λ vs. IsFifo (record f { held = vs; read = 0; written = [] })) (append-nil (available f ++ f.written))
 
-entries-fifo : (x : Cycle) (f : Fifo) → IsFifo f ≡ x.channel →
+pub entries-fifo : (x : Cycle) (f : Fifo) → IsFifo f ≡ x.channel →
     entries_of x.stamp x.channel ≡ map (took_entry x.stamp) (take f.read f.held) ++ map (put_entry x.stamp) f.written
 entries-fifo x f is = ap (entries_of x.stamp) (sym is)
 
 -- what was written stands behind what may be read
-written_last : (s : FifoState) (x : Cycle) (h : IsFifoIn s x) → drop (length s.values.items - s.written) s.values.items ≡ h.fifo.written
+pub written_last : (s : FifoState) (x : Cycle) (h : IsFifoIn s x) → drop (length s.values.items - s.written) s.values.items ≡ h.fifo.written
 written_last s x h =
     ap (λ n. drop n s.values.items) front
     ∙ ap (drop (length (available h.fifo))) (sym h.values)

@@ -1,6 +1,7 @@
 pub mod Orders
 pub mod Keeping
 pub mod Logging
+pub mod Copying
 pub mod Moves
 pub mod Versions
 pub mod Reached
@@ -12,6 +13,7 @@ pub mod Befores
 pub mod Banked
 pub mod Making
 pub mod Histories
+pub mod Ordered
 pub mod Forgetting
 pub mod Applying
 pub mod Asking

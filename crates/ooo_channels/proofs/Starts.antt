@@ -22,10 +22,10 @@ use Rattle.ooo_channels.proofs.Versions.{version_same}
 absent_notice : (below stamp : Stamp) (x : Notice) → x ≡ notice.Absent → IsNotice below stamp x []
 absent_notice below stamp x is = subst (λ a. IsNotice below stamp a []) (sym is) (record { kept = tt; by = tt })
 
-first_signal : (b : BoundChannel) → b.kind ≡ kind.Signal → first_channel b None None ≡ IsSignal (record { current = value_of b.value (pos 0); requested = None; changed = None })
+pub first_signal : (b : BoundChannel) → b.kind ≡ kind.Signal → first_channel b None None ≡ IsSignal (record { current = value_of b.value (pos 0); requested = None; changed = None })
 first_signal b is = rw is refl
 
-first_fifo : (b : BoundChannel) → b.kind ≡ kind.Fifo → first_channel b None None ≡ IsFifo (record { size = b.size; held = []; read = 0; written = []; reader = None; writer = None })
+pub first_fifo : (b : BoundChannel) → b.kind ≡ kind.Fifo → first_channel b None None ≡ IsFifo (record { size = b.size; held = []; read = 0; written = []; reader = None; writer = None })
 first_fifo b is = rw is refl
 
 pub signal_starts :

@@ -1,5 +1,5 @@
 -- When effects may be applied.
-use Rattle.std.specs.Prelude.{◌≡◌, ℕ, ◌≤◌, List, [], ◌∷◌, length, Some, None, slice_get, ⊤}
+use Rattle.std.specs.Prelude.{◌≡◌, true, ℕ, ◌≤◌, List, [], ◌∷◌, length, Some, None, slice_get, AllPairs, ⊤}
 use Rattle.ooo_time.specs.declared.stamp.Stamp.{Stamp}
 use Rattle.ooo_time.specs.Scales.{greatest_time, greatest_delta}
 use Rattle.ooo_time.specs.Stamps.{IsBefore}
@@ -11,7 +11,7 @@ use Rattle.ooo_value.specs.declared.bound.BoundEvent.TheVariants as event
 use Rattle.ooo_events.specs.Calls.{Follows, last_stamp}
 use Rattle.ooo_code.specs.declared.activation.Effect.{Effect}
 use Rattle.ooo_code.specs.declared.activation.Effect.TheVariants as effect
-use Rattle.ooo_channels.specs.Operations.{Operations, after_effect}
+use Rattle.ooo_channels.specs.Operations.{Operations, after_effect, is_on}
 use Rattle.ooo_channels.specs.Cycles.{cycle_of, channel_in, readable, writable}
 use Rattle.ooo_channels.specs.Calls.{own_calls}
 
@@ -24,6 +24,10 @@ pub record HasChannel (ops : Operations) (c : ℕ) (k : ChannelKind) : Type 0 wh
 -- no operation on channel c is later than a stamp
 abbrev pub ChannelIsBy : Operations → ℕ → Stamp → Type 0
 ChannelIsBy ops c at = ¬ IsBefore at (cycle_of ops c).stamp
+
+-- the operations on channel c were applied in the order of their stamps
+abbrev pub AreOrdered : Operations → ℕ → Type 0
+AreOrdered ops c = AllPairs (λ o p. is_on c o.effect ≡ true → is_on c p.effect ≡ true → ¬ IsBefore p.at o.at) ops.applied
 
 -- an effect names a signal, a fifo or an event of the model's own, as it has to
 abbrev pub Names : Operations → Effect → Type 0

@@ -4,13 +4,13 @@ ghost use Rattle.ooo_events.specs.Firings.{IsFirstAfter};
 ghost use Rattle.ooo_code.specs.declared.activation.Effect.{Effect as EffectSpec};
 ghost use Rattle.ooo_value.specs.declared.bound.BoundChannel.{BoundChannel as ChannelSpec};
 ghost use Rattle.ooo_value.specs.declared.bound.ChannelKind.TheVariants as kind;
-ghost use Rattle.ooo_channels.specs.Operations.{Operations, no_operations, after_effects, after_forgetting};
-ghost use Rattle.ooo_channels.specs.Cycles.{channel_in, channel_before, cycle_of, readable, writable, values_left, IsSeenAs};
+ghost use Rattle.ooo_channels.specs.Operations.{Operations, no_operations, after_effects, after_forgetting, operations_before};
+ghost use Rattle.ooo_channels.specs.Cycles.{channel_in, channel_before, cycle_of, whole_history, readable, writable, values_left, IsSeenAs};
 ghost use Rattle.ooo_channels.specs.Calls.{FiresAt, channel_of};
 ghost use Rattle.ooo_code.specs.declared.activation.Effect.TheVariants as effect;
 ghost use Rattle.ooo_value.specs.declared.bound.BoundEvent.{BoundEvent as EventSpec};
 ghost use Rattle.ooo_value.specs.declared.bound.BoundEvent.TheVariants as event;
-ghost use Rattle.ooo_channels.specs.Conditions.{HasChannel, ChannelIsBy, HasEventAt, Names, MayApply, MayApplyAll, IsCountableStamp};
+ghost use Rattle.ooo_channels.specs.Conditions.{HasChannel, ChannelIsBy, AreOrdered, HasEventAt, Names, MayApply, MayApplyAll, IsCountableStamp};
 ghost use Rattle.ooo_channels.specs.Apart.{LeavesOthers, AreAllSame};
 ghost use Rattle.ooo_channels.specs.Bank.{IsBankAfter, HasChannelIn, ForChannel, Covers, Applies, HasMoreRoom, HasRoomFor, IsKeptIn, AreFirst, AreNew, AreHistories};
 
@@ -117,6 +117,28 @@ impl Bank {
             slice_get (readable (channel_in at ops id)) n ≡ Some result }
     {
         self.channels[id as usize].value(n as usize)
+    }
+
+    /// A copy of the history of a channel: what the updates add by the operations before a stamp, that of the cycle of the
+    /// last of them among them, or by all operations where there is no stamp. Operations at later stamps may have been
+    /// applied, if those on the channel were applied in the order of their stamps.
+    ///
+    /// # Errors
+    ///
+    /// Only where memory runs out.
+    pub fn history(
+        &self,
+        alloc: Global,
+        id: u32,
+        before: Option<Stamp>,
+    ) -> Result<Vec<Entry>, AllocError>
+        requires { (ops : Operations) × IsBankAfter self.now ops × (id < length ops.channels) }
+        ensures { IfOk result (λ h. (ops : Operations) → IsBankAfter self.now ops →
+            MatchOption before (h.items ≡ whole_history (cycle_of ops id))
+            (λ s. AreOrdered ops id →
+            h.items ≡ whole_history (cycle_of (operations_before s ops) id))) }
+    {
+        self.channels[id as usize].history(alloc, before)
     }
 
     /// The histories of all channels up to the cycle of a stamp, channel by channel: what the updates before

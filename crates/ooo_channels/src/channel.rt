@@ -9,7 +9,8 @@ ghost use Rattle.ooo_value.specs.declared.bound.ChannelKind.TheVariants as kind;
 ghost use Rattle.ooo_code.specs.declared.activation.Effect.TheVariants as effect;
 ghost use Rattle.ooo_channels.specs.Conditions.{IsCountableStamp};
 ghost use Rattle.ooo_channels.specs.Operations.{Operation};
-ghost use Rattle.ooo_channels.specs.Cycles.{Cycle, cycle_at, cycle_after, first_cycle, first_shown, readable, writable, values_left, IsSeenAs};
+ghost use Rattle.ooo_channels.specs.Cycles.{Cycle, cycle_at, cycle_after, first_cycle, first_shown, whole_history, readable, writable, values_left, IsSeenAs};
+ghost use Rattle.ooo_channels.specs.Entries.{entries_before};
 ghost use Rattle.ooo_events.specs.Firings.{Fires, IsFirstAfter};
 ghost use Rattle.ooo_channels.specs.Calls.{channel_of};
 
@@ -97,6 +98,23 @@ impl ChannelState {
         match self {
             ChannelState::Signal(signal) => signal.into_history(at),
             ChannelState::Fifo(fifo) => fifo.into_history(at),
+        }
+    }
+
+    /// A copy of the history before a stamp, with what the update of the last operation's cycle adds, if that is before it
+    /// too; of all cycles where there is no stamp.
+    ///
+    /// # Errors
+    ///
+    /// Only where memory runs out.
+    pub fn history(&self, alloc: Global, before: Option<Stamp>) -> Result<Vec<Entry>, AllocError>
+        requires { HasCycle self.now }
+        ensures { IfOk result (λ h. ForCycle self.now (λ x.
+            h.items ≡ entries_before before (whole_history x))) }
+    {
+        match self {
+            ChannelState::Signal(signal) => signal.history(alloc, before),
+            ChannelState::Fifo(fifo) => fifo.history(alloc, before),
         }
     }
 

@@ -9,8 +9,9 @@ ghost use Rattle.ooo_channels.specs.Conditions.{IsCountableStamp};
 ghost use Rattle.ooo_events.specs.Firings.{Fires, IsFirstAfter};
 ghost use Rattle.ooo_value.specs.declared.bound.BoundEvent.{BoundEvent as EventSpec};
 ghost use Rattle.ooo_channels.specs.Calls.{channel_of};
-ghost use Rattle.ooo_channels.specs.Entries.{put_entry, took_entry};
+ghost use Rattle.ooo_channels.specs.Entries.{put_entry, took_entry, entries_before};
 
+use crate::entries::{copy_before, is_within};
 use crate::notices::Notice;
 use ooo_history::{Entry, What};
 use ooo_time::Stamp;
@@ -43,7 +44,7 @@ impl FifoState {
     ghost use Rattle.ooo_channels.specs.Kept.{IsFifoIn, IsFifoAfter, IsFifoEvent, FifoKeeps};
     ghost use Rattle.ooo_channels.specs.Room.{HasFifoRoom};
     ghost use Rattle.ooo_channels.specs.declared.notices.Notice.TheVariants as notice;
-    ghost use Rattle.ooo_channels.specs.Cycles.{Cycle, cycle_at, cycle_after, first_cycle, readable, writable, values_left};
+    ghost use Rattle.ooo_channels.specs.Cycles.{Cycle, cycle_at, cycle_after, first_cycle, whole_history, readable, writable, values_left};
 
     /// A fifo as it starts, without values, which keeps none of its events. It takes no memory.
     pub fn new(alloc: Global, size: u32) -> FifoState
@@ -117,6 +118,25 @@ impl FifoState {
             self.history.truncate(settled);
         }
         Ok(self.history)
+    }
+
+    /// A copy of the history before a stamp, with what the update of the last operation's cycle adds, if that is before it
+    /// too; of all cycles where there is no stamp.
+    ///
+    /// # Errors
+    ///
+    /// Only where memory runs out.
+    pub fn history(&self, alloc: Global, before: Option<Stamp>) -> Result<Vec<Entry>, AllocError>
+        requires { (x : Cycle) × IsFifoIn self.now x }
+        ensures { IfOk result (λ h. (x : Cycle) → IsFifoIn self.now x →
+            h.items ≡ entries_before before (whole_history x)) }
+    {
+        let mut copied = copy_before(alloc, self.history.as_slice(), before)?;
+        if is_within(self.stamp, before) {
+            let first = self.values.len() - self.written as usize;
+            append_written(&mut copied, self.stamp, &self.values, first)?;
+        }
+        Ok(copied)
     }
 
     /// How many values are not read yet.

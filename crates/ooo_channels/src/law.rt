@@ -18,7 +18,7 @@ ghost use Rattle.ooo_meaning.specs.World.{World, slot_at, zero_stamp, update, re
 ghost use Rattle.ooo_meaning.specs.Runs.{start_of};
 ghost use Rattle.ooo_channels.specs.Operations.{Operations, no_operations, after_effects, after_forgetting};
 ghost use Rattle.ooo_channels.specs.Calls.{FiresAt};
-ghost use Rattle.ooo_channels.specs.Conditions.{HasEventAt, MayApplyAll, IsInOrder, Names};
+ghost use Rattle.ooo_channels.specs.Conditions.{HasEventAt, AreOrdered, MayApplyAll, IsInOrder, Names};
 ghost use Rattle.ooo_channels.specs.Apart.{SameOn, IsChannelSame, LeavesOthers};
 ghost use Rattle.ooo_channels.specs.Agreement.{Agrees, IsTimely, IsShown, IsNextStamp, GoesOn, shown_up_to};
 
@@ -32,6 +32,15 @@ pub fn apart()
 pub fn others_stay()
     ensures { (at : StampSpec) (ops : Operations) (effects : List EffectSpec) →
         LeavesOthers at ops effects }
+{}
+
+/// Effects that are applied where they may be are applied in the order of their stamps, channel by channel.
+pub fn ordered()
+    ensures starts { (design : DesignSpec) (c : ℕ) →
+        AreOrdered (no_operations design.channels design.events) c }
+    ensures goes_on { (at : StampSpec) (ops : Operations) (effects : List EffectSpec) (c : ℕ) →
+        AreOrdered ops c → MayApplyAll ops at effects →
+        AreOrdered (after_effects at ops effects) c }
 {}
 
 /// As a run of a design starts, no operation was made, and the initialization goes on with that (IEEE 1666-2011, 4.2.1.1).

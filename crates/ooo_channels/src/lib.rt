@@ -5,6 +5,7 @@
 
 mod bank;
 mod channel;
+mod entries;
 mod fifo;
 pub mod law;
 mod notices;

@@ -16,7 +16,9 @@ ghost use Rattle.ooo_events.specs.Firings.{Fires, IsFirstAfter};
 ghost use Rattle.ooo_value.specs.declared.bound.BoundEvent.{BoundEvent as EventSpec};
 ghost use Rattle.ooo_channels.specs.Calls.{channel_of, notifies, renewal};
 ghost use Rattle.ooo_channels.specs.Versions.{signal_of};
+ghost use Rattle.ooo_channels.specs.Entries.{entries_before};
 
+use crate::entries::{copy_before, is_within};
 use crate::notices::Notice;
 use crate::version::{Version, append, is_next, version_in};
 use ooo_history::{Entry, What};
@@ -47,7 +49,7 @@ impl SignalState {
     ghost use Rattle.ooo_channels.specs.Kept.{IsSignalIn, IsSignalAfter, IsSignalEvent, IsNoticeKept, AreSignalEventsBy, SignalKeeps, SignalShows};
     ghost use Rattle.ooo_channels.specs.Room.{HasSignalRoom};
     ghost use Rattle.ooo_channels.specs.declared.notices.Notice.TheVariants as notice;
-    ghost use Rattle.ooo_channels.specs.Cycles.{Cycle, cycle_at, cycle_after, IsSeenAs};
+    ghost use Rattle.ooo_channels.specs.Cycles.{Cycle, cycle_at, cycle_after, whole_history, IsSeenAs};
     ghost use Rattle.ooo_channels.specs.Versions.{signal_of, IsContinued, StartsBy, AreVersionsOf, AreVersionsSince, versions_with};
 
     /// A signal as it starts, at 0 of its kind, which keeps none of its events. It takes no memory.
@@ -199,6 +201,28 @@ impl SignalState {
             self.history.push(entry)?;
         }
         Ok(self.history)
+    }
+
+    /// A copy of the history before a stamp, with what the update of the newest version's cycle adds, if that is before it
+    /// too; of all cycles where there is no stamp.
+    ///
+    /// # Errors
+    ///
+    /// Only where memory runs out.
+    pub fn history(&self, alloc: Global, before: Option<Stamp>) -> Result<Vec<Entry>, AllocError>
+        ensures { IfOk result (λ h. (x : Cycle) → IsSignalIn self.now x →
+            h.items ≡ entries_before before (whole_history x)) }
+    {
+        let mut copied = copy_before(alloc, self.history.as_slice(), before)?;
+        if is_within(self.newest.stamp, before) && self.newest.is_changing() {
+            let entry = Entry {
+                stamp: self.newest.stamp,
+                what: What::Changed,
+                value: self.newest.next_value(),
+            };
+            copied.push(entry)?;
+        }
+        Ok(copied)
     }
 
     /// Goes on to the cycle of a stamp, where that is later.
