@@ -1,49 +1,19 @@
--- A job that fits.
-use Rattle.std.proofs.Common.{◌≡◌, ℕ, zero, suc, ◌≤◌, List, [], ◌∷◌, length, Option, Some, None, get_or, refl, subst, arith}
-use Rattle.std.specs.Prelude.{slice_get, All, IfSome, IsSomeAnd}
+-- A job that fits, and what its activation does on a view.
+use Rattle.std.proofs.Common.{◌≡◌, ℕ, List, length, Option, Some, None, refl, subst}
+use Rattle.std.specs.Prelude.{slice_get, IfSome, IsSomeAnd}
 use Rattle.ooo_time.specs.declared.stamp.Stamp.{Stamp}
-use Rattle.ooo_value.specs.declared.bound.BoundChannel.{BoundChannel}
-use Rattle.ooo_value.specs.declared.bound.ChannelKind.{ChannelKind}
-use Rattle.ooo_value.specs.declared.bound.ChannelKind.TheVariants as channel
-use Rattle.ooo_value.specs.declared.values.Value.{Value}
 use Rattle.ooo_code.specs.declared.activation.Effect.{Effect}
 use Rattle.ooo_code.specs.declared.activation.Frame.{Frame}
 use Rattle.ooo_code.specs.declared.activation.JobEnd.{JobEnd}
 use Rattle.ooo_code.specs.declared.activation.Seen.{Seen}
-use Rattle.ooo_code.specs.declared.activation.Seen.TheVariants as seen
 use Rattle.ooo_code.specs.declared.design.Design.{Design}
 use Rattle.ooo_code.specs.declared.design.Proc.{Proc}
 use Rattle.ooo_code.specs.Nodes.{by_nodes}
 use Rattle.ooo_code.specs.Outcomes.{Outcome, View}
-use Rattle.ooo_code.specs.Sound.{FitsChannel}
 use Rattle.ooo_interp.specs.declared.job.Job.{Job}
 use Rattle.ooo_interp.specs.Carrying.{Carried, all_cells, numbers_of, put_in}
-use Rattle.ooo_interp.specs.Jobs.{Fits, FitsFifo, FitsProcess, FitsSeen, IsFew, IsPartOf, SeeAlike, Touched, job_on}
+use Rattle.ooo_interp.specs.Jobs.{CarriesTouched, Fits, IsPartOf, SeeAlike, Touched, job_on}
 use Rattle.ooo_interp.proofs.Views.{ReadsTouched, ChangesTouched, whole}
-
--- what holds of each element holds of the one at a place
-got_all : {A : Type 0} (P Q : A → Type 0) (xs : List A) (i : ℕ) → All P xs → IsSomeAnd (slice_get xs i) Q → (x : A) × P x × Q x
-got_all P Q [] i h k = absurd k
-got_all P Q (x ∷ xs) zero h k = (x, h 0 x (omega arith), k)
-got_all P Q (x ∷ xs) (suc i) h k = got_all P Q xs i (λ j d lt. h (suc j) d (omega arith)) k
-
-few_of : (f : BoundChannel) (values : List Value) (free : ℕ) → FitsChannel f → FitsFifo f values free → (length values ≤ 65536) × (free ≤ 65536)
-few_of f values free fits h =
-    let P : ChannelKind → Type 0 = λ k. elim k [ channel.Signal ↦ Unit {0} | channel.Fifo ↦ (1 ≤ f.size) × (f.size ≤ 65536) ] in
-    let sized : (1 ≤ f.size) × (f.size ≤ 65536) = subst P h.is_fifo fits in
-    let few = h.few in
-    let room = h.room in
-    (omega arith, omega arith)
-
-few : (design : Design) → All FitsChannel design.channels → (s : Seen) → FitsSeen design s → IsFew s
-few design sound (seen.Signal c v changed) h = (omega arith, omega arith)
-few design sound (seen.Fifo c values free) h =
-    let at = got_all FitsChannel (λ f. FitsFifo f values free) design.channels c sound h in
-    few_of at.0 values free at.1 at.2
-
--- it sees few values of each fifo
-pub all_few : (job : Job) → Fits job → All IsFew job.seen.items
-all_few job fits k d lt = few job.design.value fits.sound.channels (get_or job.seen.items k d) (fits.seen k d lt)
 
 -- the same equation, of the design and the counts that the code had
 pub as_carried : (statements p : ℕ) (frame next : Frame) (stamp : Stamp) (owned copied left left_copied : List Carried) (output : List ℕ) (effects : List Effect) (end : JobEnd) (D E : Design) (n m k : ℕ) (S U : List Seen) → D ≡ E → n ≡ k → m ≡ k → S ≡ U → by_nodes D statements p frame (record { stamp = stamp; variables = all_cells n owned copied; seen = S }) ≡ record { deed = record { output = output; variables = all_cells m left left_copied; effects = effects; end = end }; next = next } → by_nodes E statements p frame (record { stamp = stamp; variables = all_cells k owned copied; seen = U }) ≡ record { deed = record { output = output; variables = all_cells k left left_copied; effects = effects; end = end }; next = next }
@@ -52,10 +22,10 @@ as_carried statements p frame next stamp owned copied left left_copied output ef
 
 -- what it did on what it carries, it does on each view that it is part of
 pub on_view : ReadsTouched → ChangesTouched → (job : Job) (v : View) (left left_copied : List Carried) (output : List ℕ) (effects : List Effect) (end : JobEnd) (next : Frame) → Fits job → IsPartOf job v → numbers_of left ≡ numbers_of job.owned.items → job_on job (record { stamp = job.stamp; variables = all_cells (length job.design.value.variables) job.owned.items job.copied.items; seen = job.seen.items }) ≡ record { deed = record { output = output; variables = all_cells (length job.design.value.variables) left left_copied; effects = effects; end = end }; next = next } → job_on job v ≡ record { deed = record { output = output; variables = put_in left v.variables; effects = effects; end = end }; next = next }
-on_view reads changes job v left left_copied output effects end next fits part numbers did = by (slice_get job.design.value.processes job.process) refl fits.process part.channels
+on_view reads changes job v left left_copied output effects end next fits part numbers did = by (slice_get job.design.value.processes job.process) refl fits.variables part.channels
   where
-    by : (o : Option Proc) → slice_get job.design.value.processes job.process ≡ o → IsSomeAnd o (FitsProcess job) → IfSome o (λ process. SeeAlike (Touched job process) job.seen.items v.seen) → job_on job v ≡ record { deed = record { output = output; variables = put_in left v.variables; effects = effects; end = end }; next = next }
+    by : (o : Option Proc) → slice_get job.design.value.processes job.process ≡ o → IsSomeAnd o (λ process. CarriesTouched (Touched job process) job.owned.items job.copied.items) → IfSome o (λ process. SeeAlike (Touched job process) job.seen.items v.seen) → job_on job v ≡ record { deed = record { output = output; variables = put_in left v.variables; effects = effects; end = end }; next = next }
     by None e f s = absurd f
     by (Some process) e f s =
         let J : View = record { stamp = job.stamp; variables = all_cells (length job.design.value.variables) job.owned.items job.copied.items; seen = job.seen.items } in
-        whole reads changes job.design.value job.statements job.process process job.frame J v job.owned.items job.copied.items left left_copied output effects end next e fits.owned fits.copied part.owned part.copied f.variables s part.stamp refl part.count numbers did
+        whole reads changes job.design.value job.statements job.process process job.frame J v job.owned.items job.copied.items left left_copied output effects end next e fits.owned fits.copied part.owned part.copied f s part.stamp refl part.count numbers did

@@ -1,6 +1,6 @@
 -- A job's activation, on a view of all variables that the job is part of.
-use Rattle.std.proofs.Common.{◌≡◌, ℕ, zero, suc, inl, inr, ◌<◌, ◌==◌, ◌⊎◌, List, [], ◌∷◌, length, Bool, true, false, if◌then◌else◌, Option, Some, None, refl, sym, ap, subst, ◌∙◌, arith}
-use Rattle.std.specs.Prelude.{is_some, slice_get, unwrap_or, All, IsSome, IsSomeAnd}
+use Rattle.std.proofs.Common.{◌≡◌, ℕ, suc, inl, inr, ◌<◌, ◌==◌, ◌⊎◌, List, [], ◌∷◌, length, Bool, true, false, if◌then◌else◌, Option, Some, None, refl, sym, ap, subst, ◌∙◌, arith}
+use Rattle.std.specs.Prelude.{is_some, slice_get, unwrap_or, All, IsSome}
 use Rattle.std.proofs.lemmas.Bool.Decides.{Decides-eqb}
 use Rattle.std.proofs.lemmas.List.{ext_get_or}
 use Rattle.ooo_value.specs.declared.values.Value.{Value}
@@ -15,7 +15,7 @@ use Rattle.ooo_code.specs.Nodes.{by_nodes}
 use Rattle.ooo_code.specs.Segments.{Accesses}
 use Rattle.ooo_code.specs.Touches.{Touch, Writes}
 use Rattle.ooo_interp.specs.Carrying.{Carried, all_cells, listed, numbers_of, put_in}
-use Rattle.ooo_interp.specs.Jobs.{AreAmong, CarriesTouched, FitsCarried, FitsCells, SeeAlike}
+use Rattle.ooo_interp.specs.Jobs.{AreAmong, CarriesTouched, IsCarriedOf, SeeAlike}
 use Rattle.ooo_interp.proofs.Placed.{at_number, cells_below, length_all, length_placed, placed}
 use Rattle.ooo_interp.proofs.Stable.{values_stable}
 
@@ -67,17 +67,12 @@ listed_among (y ∷ ys) x = by (x == y.0) (listed_among ys x)
 same_listed : (xs ys : List Carried) (x : ℕ) → numbers_of xs ≡ numbers_of ys → is_some (listed xs x) ≡ is_some (listed ys x)
 same_listed xs ys x h = listed_among xs x ∙ ap (λ ns. among ns x) h ∙ sym (listed_among ys x)
 
-got_within : {A : Type 0} (xs : List A) (i : ℕ) (P : A → Type 0) → IsSomeAnd (slice_get xs i) P → i < length xs
-got_within [] i P h = absurd h
-got_within (x ∷ xs) zero P h = omega arith
-got_within (x ∷ xs) (suc i) P h = let lt = got_within xs i P h in omega arith
-
 outcome_from : {K : Type 0} (o : Outcome K) (output : List ℕ) (variables : List (List Value)) (effects : List Effect) (end : JobEnd) (next : K) → o.deed.output ≡ output → o.deed.variables ≡ variables → o.deed.effects ≡ effects → o.deed.end ≡ end → o.next ≡ next → o ≡ record { deed = record { output = output; variables = variables; effects = effects; end = end }; next = next }
 outcome_from o output variables effects end next p q r s t = λ i. record { deed = record { output = p i; variables = q i; effects = r i; end = s i }; next = t i }
 
 -- ---- on a view
 
-module _ (design : Design) (T : Touch → Type 0) (v : View) (owned copied : List Carried) (fits_owned : All (FitsCarried design) owned) (fits_copied : All (FitsCarried design) copied) (among_owned : AreAmong v.variables owned) (among_copied : AreAmong v.variables copied) where
+module _ (design : Design) (T : Touch → Type 0) (v : View) (owned copied : List Carried) (fits_owned : All (IsCarriedOf design) owned) (fits_copied : All (IsCarriedOf design) copied) (among_owned : AreAmong v.variables owned) (among_copied : AreAmong v.variables copied) where
   abbrev pub count : ℕ
   count = length design.variables
 
@@ -90,10 +85,10 @@ module _ (design : Design) (T : Touch → Type 0) (v : View) (owned copied : Lis
     where
       by : (o : Option (List Value)) → listed owned x ≡ o → (p : Option (List Value)) → listed copied x ≡ p → IsSome o ⊎ IsSome p → at_number carried_cells x ≡ at_number v.variables x
       by (Some c) e p f h =
-          let lt : x < count = got_within design.variables x (λ y. FitsCells y c) (listed_all (FitsCarried design) owned x c fits_owned e) in
+          let lt : x < count = listed_all (IsCarriedOf design) owned x c fits_owned e in
           cells_below count owned copied x lt ∙ ap (λ o. unwrap_or o (unwrap_or (listed copied x) [])) e ∙ sym (listed_all (λ k. at_number v.variables k.0 ≡ k.1) owned x c among_owned e)
       by None e (Some c) f h =
-          let lt : x < count = got_within design.variables x (λ y. FitsCells y c) (listed_all (FitsCarried design) copied x c fits_copied f) in
+          let lt : x < count = listed_all (IsCarriedOf design) copied x c fits_copied f in
           cells_below count owned copied x lt ∙ ap (λ o. unwrap_or o (unwrap_or (listed copied x) [])) e ∙ ap (λ o. unwrap_or o []) f ∙ sym (listed_all (λ k. at_number v.variables k.0 ≡ k.1) copied x c among_copied f)
       by None e None f h = elim h [ inl a ↦ absurd cc | inr b ↦ absurd cc ]
 
@@ -138,7 +133,7 @@ module _ (design : Design) (T : Touch → Type 0) (v : View) (owned copied : Lis
         ext_get_or [] b.deed.variables (put_in left v.variables) (omega arith) (λ i lt. variable_left i (omega arith))
 
 -- what an activation did on what is carried, it does on a view of all variables
-pub whole : ReadsTouched → ChangesTouched → (design : Design) (statements p : ℕ) (process : Proc) (frame : Frame) (J v : View) (owned copied left left_copied : List Carried) (output : List ℕ) (effects : List Effect) (end : JobEnd) (next : Frame) → slice_get design.processes p ≡ Some process → All (FitsCarried design) owned → All (FitsCarried design) copied → AreAmong v.variables owned → AreAmong v.variables copied → CarriesTouched (Accesses design process frame.entry) owned copied → SeeAlike (Accesses design process frame.entry) J.seen v.seen → J.stamp ≡ v.stamp → J.variables ≡ all_cells (length design.variables) owned copied → length v.variables ≡ length design.variables → numbers_of left ≡ numbers_of owned → by_nodes design statements p frame J ≡ record { deed = record { output = output; variables = all_cells (length design.variables) left left_copied; effects = effects; end = end }; next = next } → by_nodes design statements p frame v ≡ record { deed = record { output = output; variables = put_in left v.variables; effects = effects; end = end }; next = next }
+pub whole : ReadsTouched → ChangesTouched → (design : Design) (statements p : ℕ) (process : Proc) (frame : Frame) (J v : View) (owned copied left left_copied : List Carried) (output : List ℕ) (effects : List Effect) (end : JobEnd) (next : Frame) → slice_get design.processes p ≡ Some process → All (IsCarriedOf design) owned → All (IsCarriedOf design) copied → AreAmong v.variables owned → AreAmong v.variables copied → CarriesTouched (Accesses design process frame.entry) owned copied → SeeAlike (Accesses design process frame.entry) J.seen v.seen → J.stamp ≡ v.stamp → J.variables ≡ all_cells (length design.variables) owned copied → length v.variables ≡ length design.variables → numbers_of left ≡ numbers_of owned → by_nodes design statements p frame J ≡ record { deed = record { output = output; variables = all_cells (length design.variables) left left_copied; effects = effects; end = end }; next = next } → by_nodes design statements p frame v ≡ record { deed = record { output = output; variables = put_in left v.variables; effects = effects; end = end }; next = next }
 whole reads changes design statements p process frame J v owned copied left left_copied output effects end next there fo fc ao ac covers see stamp is long numbers did =
     let T : Touch → Type 0 = Accesses design process frame.entry in
     let agree = carried_agrees design T v owned copied fo fc ao ac J stamp is long covers see in

@@ -1,11 +1,7 @@
 -- Jobs: what an activation is on lent parts, when a job fits, and what a job gives.
-use Rattle.std.specs.Prelude.{◌≡◌, ℕ, ◌<◌, ◌≤◌, ◌⊎◌, List, length, map, None, Some, slice_get, IsSome, IfSome, IsSomeAnd, All, Any, AllPairs, Contains}
+use Rattle.std.specs.Prelude.{◌≡◌, ℕ, ◌<◌, ◌≤◌, ◌⊎◌, List, length, None, slice_get, IsSome, IfSome, IsSomeAnd, All, AllPairs}
 use Rattle.ooo_time.specs.declared.stamp.Stamp.{Stamp}
-use Rattle.ooo_value.specs.declared.bound.BoundChannel.{BoundChannel}
-use Rattle.ooo_value.specs.declared.bound.BoundVariable.{BoundVariable}
-use Rattle.ooo_value.specs.declared.bound.ChannelKind.TheVariants as channel
 use Rattle.ooo_value.specs.declared.values.Value.{Value}
-use Rattle.ooo_value.specs.Values.{kind_of, IsOfKind}
 use Rattle.ooo_code.specs.declared.activation.Frame.{Frame}
 use Rattle.ooo_code.specs.declared.activation.Seen.{Seen}
 use Rattle.ooo_code.specs.declared.activation.Seen.TheVariants as seen
@@ -15,8 +11,7 @@ use Rattle.ooo_code.specs.declared.segment.SegmentEntry.{SegmentEntry}
 use Rattle.ooo_code.specs.Expressions.{Sight, cells_of, fifo_seen, signal_seen}
 use Rattle.ooo_code.specs.Nodes.{by_nodes, ends}
 use Rattle.ooo_code.specs.Outcomes.{Outcome, View}
-use Rattle.ooo_code.specs.Segments.{Accesses, entries_of}
-use Rattle.ooo_code.specs.Sound.{IsSound, signal_kind}
+use Rattle.ooo_code.specs.Segments.{Accesses}
 use Rattle.ooo_code.specs.Touches.{Touch, Reads, Writes, ReadsSignal, HoldsReading, HoldsWriting}
 use Rattle.ooo_interp.specs.declared.doing.Halt.{Halt}
 use Rattle.ooo_interp.specs.declared.doing.Emitted.{Emitted}
@@ -43,51 +38,14 @@ comes_to began emitted halt s = ends (entry_after began halt) (job_end halt) (do
 
 -- ---- when a job fits
 
--- a frame has a value of its kind for each slot of the process, and stands at the entry of one of its segments
-pub record FitsFrame (design : Design) (process : Proc) (frame : Frame) : Type 0 where
-  pub slots : map kind_of frame.slots ≡ process.slots
-  pub entry : Contains (entries_of design process) frame.entry
-
 -- what is written may be changed, and what is read is carried
 pub record CarriesTouched (T : Touch → Type 0) (owned copied : List Carried) : Type 0 where
   pub written : (x : ℕ) → T (Writes x) → IsSome (listed owned x)
   pub read : (x : ℕ) → T (Reads x) → IsSome (listed owned x) ⊎ IsSome (listed copied x)
 
--- it is what is seen of this signal, or of this fifo
-abbrev pub IsOfSignal : ℕ → Seen → Type 0
-IsOfSignal c (seen.Signal d v changed) = d ≡ c
-IsOfSignal c (seen.Fifo d values free) = ⊥
-
-abbrev pub IsOfFifo : ℕ → Seen → Type 0
-IsOfFifo c (seen.Signal d v changed) = ⊥
-IsOfFifo c (seen.Fifo d values free) = d ≡ c
-
--- each signal that is read is seen, and each fifo of which an end is held
-pub record SeesTouched (T : Touch → Type 0) (sight : List Seen) : Type 0 where
-  pub signals : (c : ℕ) → T (ReadsSignal c) → Any (IsOfSignal c) sight
-  pub reading : (c : ℕ) → T (HoldsReading c) → Any (IsOfFifo c) sight
-  pub writing : (c : ℕ) → T (HoldsWriting c) → Any (IsOfFifo c) sight
-
--- a variable has as many elements as its length, each of its kind
-pub record FitsCells (variable : BoundVariable) (cells : List Value) : Type 0 where
-  pub count : length cells ≡ variable.length
-  pub kinds : All (λ v. IsOfKind v variable.kind) cells
-
 -- what is carried is of a variable of the design
-abbrev pub FitsCarried : Design → Carried → Type 0
-FitsCarried design c = IsSomeAnd (slice_get design.variables c.0) (λ x. FitsCells x c.1)
-
--- a fifo shows values of its kind, and has no more values and free slots than it holds
-pub record FitsFifo (fifo : BoundChannel) (values : List Value) (free : ℕ) : Type 0 where
-  pub is_fifo : fifo.kind ≡ channel.Fifo
-  pub kinds : All (λ v. IsOfKind v fifo.value) values
-  pub few : length values ≤ fifo.size
-  pub room : free ≤ fifo.size
-
--- what is seen is of a channel of the design
-abbrev pub FitsSeen : Design → Seen → Type 0
-FitsSeen design (seen.Signal c v changed) = signal_kind (slice_get design.channels c) ≡ Some (kind_of v)
-FitsSeen design (seen.Fifo c values free) = IsSomeAnd (slice_get design.channels c) (λ f. FitsFifo f values free)
+abbrev pub IsCarriedOf : Design → Carried → Type 0
+IsCarriedOf design c = c.0 < length design.variables
 
 -- how many values and how many free slots are seen of a fifo; a signal has none
 abbrev pub count_seen : Seen → ℕ
@@ -119,23 +77,16 @@ SeenAscend sight = AllPairs (λ a b. number_seen a < number_seen b) sight
 abbrev pub Touched : Job → Proc → Touch → Type 0
 Touched job process = Accesses job.design.value process job.frame.entry
 
--- a job fits a process: it has all that the segment touches
-pub record FitsProcess (job : Job) (process : Proc) : Type 0 where
-  pub frame : FitsFrame job.design.value process job.frame
-  pub variables : CarriesTouched (Touched job process) job.owned.items job.copied.items
-  pub channels : SeesTouched (Touched job process) job.seen.items
-
--- a job fits. Its lists ascend by number, so that each variable and each channel stands in them once.
+-- a job carries what its segment touches, and sees of no fifo more than the largest one holds. Its lists ascend by number.
 pub record Fits (job : Job) : Type 0 where
-  pub sound : IsSound job.design.value
-  pub process : IsSomeAnd (slice_get job.design.value.processes job.process) (FitsProcess job)
-  pub owned : All (FitsCarried job.design.value) job.owned.items
-  pub copied : All (FitsCarried job.design.value) job.copied.items
-  pub seen : All (FitsSeen job.design.value) job.seen.items
+  pub variables :
+      IsSomeAnd (slice_get job.design.value.processes job.process) (λ process. CarriesTouched (Touched job process) job.owned.items job.copied.items)
+  pub owned : All (IsCarriedOf job.design.value) job.owned.items
+  pub copied : All (IsCarriedOf job.design.value) job.copied.items
+  pub few : All IsFew job.seen.items
   pub owned_ascends : IsAscending job.owned.items
   pub copied_ascends : IsAscending job.copied.items
   pub seen_ascends : SeenAscend job.seen.items
-  pub apart : (x : ℕ) → IsSome (listed job.owned.items x) → ¬ IsSome (listed job.copied.items x)
 
 -- ---- what a job gives
 

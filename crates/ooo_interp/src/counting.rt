@@ -1,6 +1,8 @@
 ghost use Rattle.std.specs.Prelude.{◌≡◌, ◌+◌, IsTrue, IsFalse, suc};
 ghost use Rattle.ooo_interp.specs.Running.{room_of};
 
+use ooo_code::Node;
+
 /// How much of an activation is left.
 #[derive(Clone, Copy, Debug)]
 pub struct Left {
@@ -42,5 +44,26 @@ impl Left {
         } else {
             false
         }
+    }
+    // Counts the statement of a node, if it has one, where one may still count: then as many nodes may be passed again.
+    #[inline(always)]
+    pub(crate) fn count(&mut self, node: &Node, nodes: usize) -> bool
+        ensures same { IsFalse node.now.counts → self.new ≡ self.old }
+        ensures counted { IsTrue node.now.counts → IsTrue result →
+            self.old.statements ≡ suc self.new.statements }
+        ensures room { IsTrue node.now.counts → IsTrue result →
+            room_of self.new ≡ suc (suc nodes) }
+        ensures none { IsFalse result → self.old.statements ≡ 0 }
+        ensures counts { IsFalse result → IsTrue node.now.counts }
+        ensures left { IsFalse result → self.new ≡ self.old }
+    {
+        if !node.counts {
+            return true;
+        }
+        if self.statements == 0 {
+            return false;
+        }
+        *self = Left::new(self.statements - 1, nodes);
+        true
     }
 }

@@ -88,16 +88,10 @@ fn go_on<'a, L: Lent>(
     let Some(node) = at(nodes, number as usize) else {
         return Ok(Turn::Over(Halt::Ended));
     };
-    if !node.counts {
-        return do_node(lent, emitted, trigger, activation, node, number);
-    }
-    if left.statements == 0 {
+    if !left.count(node, nodes.len()) {
         return Ok(Turn::Over(Halt::Limit(node.line)));
     }
-    let after = Left::new(left.statements - 1, nodes.len());
-    let counted = do_node(lent, emitted, trigger, activation, node, number)?;
-    *left = after;
-    Ok(counted)
+    do_node(lent, emitted, trigger, activation, node, number)
 }
 
 // Does what a node does, at once where that is plain.

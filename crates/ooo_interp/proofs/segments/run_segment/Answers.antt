@@ -1,4 +1,4 @@
--- A job that fits sees few values of each fifo, and what its activation does on what it carries it does on each view.
+-- What the activation of a job does on what it carries it does on each view.
 use Rattle.std.proofs.Common.{◌≡◌, ℕ, List, length, refl, ap, sym, subst, ◌∙◌}
 use Rattle.std.specs.Prelude.{All}
 use Rattle.std.specs.Global.{Vec}
@@ -8,17 +8,17 @@ use Rattle.ooo_interp.specs.Carrying.{numbers_of}
 use Rattle.ooo_interp.specs.Acting.{entry_after, job_end}
 use Rattle.ooo_interp.specs.Jobs.{IsFew, SeenAscend}
 use Rattle.ooo_interp.specs.Ports.{all_shown, values_in}
-use Rattle.ooo_interp.proofs.JobLemmas.{all_few, as_carried, on_view}
+use Rattle.ooo_interp.proofs.JobLemmas.{as_carried, on_view}
 use Rattle.ooo_interp.proofs.segments.run_segment.Goals as goal
 
 pub ports_of-requires : goal.ports_of-requires
 ports_of-requires c = record {
-  few = subst (All IsFew) (sym c.as_slice.ensures.value) (all_few c.args.job c.requires);
+  few = subst (All IsFew) (sym c.as_slice.ensures.value) c.requires.few;
   ascending = subst SeenAscend (sym c.as_slice.ensures.value) c.requires.seen_ascends;
 }
 
 pub new-fifos-requires : goal.new-fifos-requires
-new-fifos-requires c = record { ascending = c.requires.seen_ascends; few = all_few c.args.job c.requires }
+new-fifos-requires c = record { ascending = c.requires.seen_ascends; few = c.requires.few }
 
 pub returns : goal.returns
 returns c =
