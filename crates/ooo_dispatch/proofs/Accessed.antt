@@ -41,7 +41,7 @@ each_in P [] x h i = absurd i
 each_in P (y ∷ xs) x h (inl e) = subst P (sym e) h.0
 each_in P (y ∷ xs) x h (inr j) = each_in P xs x h.1 j
 
-contained : {A : Type 0} (xs : List A) (n : ℕ) (x : A) → slice_get xs n ≡ Some x → Contains xs x
+pub contained : {A : Type 0} (xs : List A) (n : ℕ) (x : A) → slice_get xs n ≡ Some x → Contains xs x
 contained [] n x e = absurd cc
 contained (y ∷ xs) zero x e = (0, omega arith, let s : y ≡ x = cc in s)
 contained (y ∷ xs) (suc n) x e = let r = contained xs n x e in Contains-append_right (y ∷ []) xs x r

@@ -133,7 +133,7 @@ module _ (r : Rules) (rules : AreRules r) (sound : IsSound r.design) (does : Doe
   origin_cases : (e : ℕ) → (origin_of r e ≡ event.Own) ⊎ (slice_get r.design.events e ≡ Some (origin_of r e))
   origin_cases e = ⊎_elim (λ x. inr (x.1 ∙ ap (λ b. Some b) (sym x.2))) (λ n. inl n) (index_cases r.design.events e event.Own)
 
-  calls_by : (x : Activation) (a : Acts x) (e : ℕ) → IsCalled r.design.events (deed_of r x).effects e → calls r x.segment e ≡ true
+  pub calls_by : (x : Activation) (a : Acts x) (e : ℕ) → IsCalled r.design.events (deed_of r x).effects e → calls r x.segment e ≡ true
   calls_by x a e c = calls_of r x.segment e a.here.access a.here.access_is (at (node_calls r.design.events m.node.kind c.effect e m.makes c.calls))
     where
       m : IsMade r.design a.here.process a.here.segment.entry c.effect

@@ -32,7 +32,7 @@ use Rattle.ooo_dispatch.proofs.Walks.{before_by, least_leads, not_later}
 -- ---- clashes
 
 -- a clash of any kind is a strict one
-weaker : (k : ClashKind) → is_clash k false ≡ true → is_clash k true ≡ true
+pub weaker : (k : ClashKind) → is_clash k false ≡ true → is_clash k true ≡ true
 weaker Apart e = absurd cc
 weaker Earlier e = absurd cc
 weaker Same e = refl

@@ -97,7 +97,7 @@ AskedAs (event.Fall c) x v a = SignalAsked x v a
 AskedAs (event.Written c) x v a = PutAsked x a
 AskedAs (event.Taken c) x v a = TakeAsked x a
 
-swap : (c d : ℕ) → (c == d) ≡ (d == c)
+pub swap : (c d : ℕ) → (c == d) ≡ (d == c)
 swap c d = at (cases_eq c d)
   where
     at : (c ≡ d) ⊎ (c ≢ d) → (c == d) ≡ (d == c)
@@ -126,7 +126,7 @@ signal_asked c x v a (effect.Notify e k ∷ fs) h = signal_asked c x v a fs h
 signal_asked c x v a (effect.Cancel e ∷ fs) h = signal_asked c x v a fs h
 signal_asked c x v a (effect.Stop ∷ fs) h = signal_asked c x v a fs h
 
-some_more : (vs : List Value) (v : Value) → nat_lt 0 (length (vs ++ v ∷ [])) ≡ true
+pub some_more : (vs : List Value) (v : Value) → nat_lt 0 (length (vs ++ v ∷ [])) ≡ true
 some_more [] v = refl
 some_more (u ∷ us) v = lt-ltb 0 (length (u ∷ us ++ v ∷ [])) (omega arith)
 
@@ -216,11 +216,11 @@ told : (test : Value → Bool) (now : Value) (o : Option Value) →
 told test now None = ap (λ b. not b && test now) (same_self now)
 told test now (Some v) = refl
 
-signal_noted : (test : Value → Bool) (x : Channel) (v : Value) (a : Option Value) → SignalAsked x v a → on_signal (λ s. changes s && test (next_value s)) (Some x) ≡ differs test v a
+pub signal_noted : (test : Value → Bool) (x : Channel) (v : Value) (a : Option Value) → SignalAsked x v a → on_signal (λ s. changes s && test (next_value s)) (Some x) ≡ differs test v a
 signal_noted test (IsSignal s) v a h = told test s.current s.requested ∙ ap (λ u. differs test u s.requested) (sym h.0) ∙ ap (differs test v) (sym h.1)
 signal_noted test (IsFifo f) v a h = absurd h
 
-changed_noted : (x : Channel) (v : Value) (a : Option Value) → SignalAsked x v a → on_signal changes (Some x) ≡ differs any_value v a
+pub changed_noted : (x : Channel) (v : Value) (a : Option Value) → SignalAsked x v a → on_signal changes (Some x) ≡ differs any_value v a
 changed_noted (IsSignal s) v a h = sym (and_true (changes s)) ∙ signal_noted any_value (IsSignal s) v a h
 changed_noted (IsFifo f) v a h = absurd h
 

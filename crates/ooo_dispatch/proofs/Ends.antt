@@ -64,7 +64,7 @@ module _ (r : Rules) where
     by_time : broken_at_last r xs ≡ None → has_stopped r xs ≡ false → RunEnds p xs Time → EndsAs xs (history.Time r.limits.stop)
     by_idle : (s : Stamp) → broken_at_last r xs ≡ None → has_stopped r xs ≡ false → RunEnds p xs Idle → s ≡ last_stamp xs → EndsAs xs (history.Idle s)
 
-  end_whole : (xs : List Activation) (next : Option Stamp) → broken_at_last r xs ≡ None → end_after r xs next ≡ (if has_stopped r xs then history.Stop (last_stamp xs) else end_before r xs next)
+  pub end_whole : (xs : List Activation) (next : Option Stamp) → broken_at_last r xs ≡ None → end_after r xs next ≡ (if has_stopped r xs then history.Stop (last_stamp xs) else end_before r xs next)
   end_whole xs next whole = ap (λ o. elim o [ Some e ↦ e | None ↦ if has_stopped r xs then history.Stop (last_stamp xs) else end_before r xs next ]) whole
 
   end_calm : (xs : List Activation) (next : Option Stamp) → broken_at_last r xs ≡ None → has_stopped r xs ≡ false → end_after r xs next ≡ end_before r xs next

@@ -59,22 +59,22 @@ of_process r [] d y i = absurd i
 of_process r (z ∷ ys) d y (inl e) = subst (λ x. x.process ≡ process_of r x.segment) (sym e) d.0
 of_process r (z ∷ ys) d y (inr i) = of_process r ys d.2 y i
 
-and_yes : (a b : Bool) → a ≡ true → b ≡ true → (a && b) ≡ true
+pub and_yes : (a b : Bool) → a ≡ true → b ≡ true → (a && b) ≡ true
 and_yes true true e f = refl
 and_yes false b e f = absurd cc
 and_yes true false e f = absurd cc
 
 -- ---- what is of no matter to a channel of the other kind
 
-signal_of_fifo : (s : Stamp) (x : Channel) → IsOfKind channel.Fifo x → signal_shown s.time x ≡ record { value = no_value; changed = false }
+pub signal_of_fifo : (s : Stamp) (x : Channel) → IsOfKind channel.Fifo x → signal_shown s.time x ≡ record { value = no_value; changed = false }
 signal_of_fifo s (IsFifo x) h = refl
 signal_of_fifo s (IsSignal x) h = absurd h
 
-readable_of_signal : (x : Channel) → IsOfKind channel.Signal x → readable x ≡ []
+pub readable_of_signal : (x : Channel) → IsOfKind channel.Signal x → readable x ≡ []
 readable_of_signal (IsSignal x) h = refl
 readable_of_signal (IsFifo x) h = absurd h
 
-writable_of_signal : (x : Channel) → IsOfKind channel.Signal x → writable x ≡ 0
+pub writable_of_signal : (x : Channel) → IsOfKind channel.Signal x → writable x ≡ 0
 writable_of_signal (IsSignal x) h = refl
 writable_of_signal (IsFifo x) h = absurd h
 
@@ -106,12 +106,12 @@ module _ (r : Rules) (rules : AreRules r) (sound : IsSound r.design) (does : Doe
   there g h = record { access = h.access; is = h.access_is; same = access_is r g h.access h.access_is }
 
   -- an effect on a channel is of a segment that touches the channel, which is of the effect's kind
-  record By (y : Activation) (t : Touch) (K : Type 0) : Type 0 where
-    acts : Acts r rules sound does y
-    access : Accesses r.design acts.here.process acts.here.segment.entry t
-    kind : K
+  pub record By (y : Activation) (t : Touch) (K : Type 0) : Type 0 where
+    pub acts : Acts r rules sound does y
+    pub access : Accesses r.design acts.here.process acts.here.segment.entry t
+    pub kind : K
 
-  request_by : (y : Activation) (c : ℕ) (v : Value) → In (effect.Request c v) (deed_of r y).effects → By y (WritesSignal c) (IsSome (signal_kind (slice_get r.design.channels c)))
+  pub request_by : (y : Activation) (c : ℕ) (v : Value) → In (effect.Request c v) (deed_of r y).effects → By y (WritesSignal c) (IsSome (signal_kind (slice_get r.design.channels c)))
   request_by y c v i = ⊎_elim (λ a. by a) (λ n. absurd (subst (λ es. In (effect.Request c v) es) n.effects i)) (acting r rules sound does y)
     where
       by : Acts r rules sound does y → By y (WritesSignal c) (IsSome (signal_kind (slice_get r.design.channels c)))
@@ -121,7 +121,7 @@ module _ (r : Rules) (rules : AreRules r) (sound : IsSound r.design) (does : Doe
           let t = accessed r rules sound does y a (effect.Request c v) m (WritesSignal c) n in
           record { acts = a; access = t; kind = exists_of r rules sound y.segment a.here (WritesSignal c) t }
 
-  put_by : (y : Activation) (c : ℕ) (v : Value) → In (effect.Put c v) (deed_of r y).effects → By y (HoldsWriting c) (IsSome (fifo_kind (slice_get r.design.channels c)))
+  pub put_by : (y : Activation) (c : ℕ) (v : Value) → In (effect.Put c v) (deed_of r y).effects → By y (HoldsWriting c) (IsSome (fifo_kind (slice_get r.design.channels c)))
   put_by y c v i = ⊎_elim (λ a. by a) (λ n. absurd (subst (λ es. In (effect.Put c v) es) n.effects i)) (acting r rules sound does y)
     where
       by : Acts r rules sound does y → By y (HoldsWriting c) (IsSome (fifo_kind (slice_get r.design.channels c)))
@@ -131,7 +131,7 @@ module _ (r : Rules) (rules : AreRules r) (sound : IsSound r.design) (does : Doe
           let t = accessed r rules sound does y a (effect.Put c v) m (HoldsWriting c) n in
           record { acts = a; access = t; kind = exists_of r rules sound y.segment a.here (HoldsWriting c) t }
 
-  take_by : (y : Activation) (c : ℕ) → In (effect.Take c) (deed_of r y).effects → By y (HoldsReading c) (IsSome (fifo_kind (slice_get r.design.channels c)))
+  pub take_by : (y : Activation) (c : ℕ) → In (effect.Take c) (deed_of r y).effects → By y (HoldsReading c) (IsSome (fifo_kind (slice_get r.design.channels c)))
   take_by y c i = ⊎_elim (λ a. by a) (λ n. absurd (subst (λ es. In (effect.Take c) es) n.effects i)) (acting r rules sound does y)
     where
       by : Acts r rules sound does y → By y (HoldsReading c) (IsSome (fifo_kind (slice_get r.design.channels c)))

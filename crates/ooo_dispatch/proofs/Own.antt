@@ -40,7 +40,7 @@ follows kind.Stop next c h = h
 follows (kind.Trigger w) next c h = h
 follows kind.End next c h = h
 
-among : (m : ℕ) (ms : List ℕ) → In (After m) (map After ms) → In m ms
+pub among : (m : ℕ) (ms : List ℕ) → In (After m) (map After ms) → In m ms
 among m [] i = absurd i
 among m (n ∷ ms) (inl e) = inl (let s : m ≡ n = cc in s)
 among m (n ∷ ms) (inr j) = inr (among m ms j)
@@ -103,14 +103,19 @@ module _ (design : Design) (process : Proc) (fits : FitsProcess design process) 
       let number = r.number in
       record { node = r.item; own = record { from = omega (arith, number); below = omega (arith, number, below, some) }; is = ap (slice_get design.nodes) number ∙ at.1; waits = r.passes }
 
-  wait_leads : (node : Node) → is_wait node ≡ true → Contains (followers node) node.next
+  -- after a wait of the process, one of its segments begins
+  pub entry_wait : (m : ℕ) → In (After m) (entries_of design process) → IsWait m
+  entry_wait m (inl e) = absurd cc
+  entry_wait m (inr i) = wait_is m (among m (numbers_where is_wait process.first (nodes_of design process)) i)
+
+  pub wait_leads : (node : Node) → is_wait node ≡ true → Contains (followers node) node.next
   wait_leads node e = subst (λ b. Contains (if b then node.next ∷ [] else successors node) node.next) (sym e) (0, omega arith, refl)
 
   pub entry_own : (entry : SegmentEntry) → In entry (entries_of design process) → IsNodeOf process (entry_node design process entry)
   entry_own Start i = let some = fits.some in record { from = omega arith; below = omega (arith, some) }
   entry_own (After m) (inl e) = absurd cc
   entry_own (After m) (inr i) =
-      let w = wait_is m (among m (numbers_where is_wait process.first (nodes_of design process)) i) in
+      let w = entry_wait m (inr i) in
       let f = fits.nodes m w.node w.own w.is in
       subst (IsNodeOf process) (sym (ap next_of w.is)) (All-contains (IsNodeOf process) (followers w.node) w.node.next f.own (wait_leads w.node w.waits))
 

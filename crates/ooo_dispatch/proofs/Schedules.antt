@@ -1,9 +1,8 @@
 -- The laws of lawful lists of steps, from the theorem on schedules.
-use Rattle.std.proofs.Common.{◌≡◌, ◌≢◌, ℕ, suc, ◌<◌, ◌⊎◌, inl, inr, ⊎_elim, Bool, true, false, if◌then◌else◌, ◌==◌, ◌||◌, List, [], ◌∷◌, Option, Some, None, refl, sym, ap, ◌∙◌, subst, arith}
+use Rattle.std.proofs.Common.{◌≡◌, ◌≢◌, ℕ, suc, ◌⊎◌, inl, inr, ⊎_elim, Bool, true, false, if◌then◌else◌, ◌==◌, ◌||◌, List, [], ◌∷◌, Option, Some, None, refl, sym, ap, ◌∙◌, subst, arith}
 use Rattle.std.specs.Prelude.{Contains}
-use Rattle.std.proofs.lemmas.Bool.{cases_order, eqb-true, eqb-false, lt-ltb}
+use Rattle.std.proofs.lemmas.Bool.{eqb-true, eqb-false}
 use Rattle.ooo_time.specs.declared.stamp.Stamp.{Stamp}
-use Rattle.ooo_time.specs.Stamps.{IsBefore, is_before}
 use Rattle.ooo_value.specs.declared.values.Value.{Value}
 use Rattle.ooo_code.specs.declared.design.Design.{Design}
 use Rattle.ooo_code.specs.declared.limits.Limits.{Limits}
@@ -14,8 +13,8 @@ use Rattle.ooo_schedules.specs.Cuts.{IsCut, by_end, by_limit}
 use Rattle.ooo_schedules.specs.Delays.{NotAfter}
 use Rattle.ooo_schedules.specs.Design as order
 use Rattle.ooo_schedules.specs.Design.{sort}
-use Rattle.ooo_schedules.specs.Model.{Act, Front, In, IsEarlier, committed, count, dispatched, front_at, front_of, job, last, running_or}
-use Rattle.ooo_schedules.specs.Program.{Sound, design}
+use Rattle.ooo_schedules.specs.Model.{Act, Front, In, committed, count, dispatched, front_at, front_of, job, last, running_or}
+use Rattle.ooo_schedules.specs.Program.{Sound}
 use Rattle.ooo_schedules.specs.Tables.{EveryScheduleOf, program}
 use Rattle.ooo_tables.specs.declared.tables.Tables.{Tables}
 use Rattle.ooo_dispatch.specs.declared.reads.Reads.{Reads}
@@ -26,9 +25,10 @@ use Rattle.ooo_dispatch.specs.Rules.{Rules, access_of, cells_after, clash, has, 
 use Rattle.ooo_dispatch.specs.Schedules.{CommitsPutBack, CommitsWalk, CutStays, IsReady, Leads, NoDeadEnd, NoneOvertakes, NothingAway, StayAllowed, StaysSo, cells_left, cells_on, owns}
 use Rattle.ooo_dispatch.specs.Steps.{Replay, after_step, committed_as, dispatched_at, job_of}
 use Rattle.ooo_dispatch.proofs.Allowed.{allowed, are_rules, job_out}
-use Rattle.ooo_dispatch.proofs.Calls.{or_left, or_right, IsThere, clash_yes, has_yes, or_true, there_if}
+use Rattle.ooo_dispatch.proofs.Calls.{or_right, IsThere, clash_yes, has_yes, or_true, there_if}
+use Rattle.ooo_dispatch.proofs.Commits.{P, in_sorted, is_out_of_order, job_stands}
 use Rattle.ooo_dispatch.proofs.Leads.{leads, may_run}
-use Rattle.ooo_dispatch.proofs.Stamps.{before_no, before_yes, compare, irreflexive, then_not_after}
+use Rattle.ooo_dispatch.proofs.Stamps.{compare, irreflexive, then_not_after}
 
 -- ---- the cut
 
@@ -80,40 +80,24 @@ made q n g x = record { process = q; number = n; segment = g.segment; stamp = g.
 -- ---- a log in order of place, with one activation more
 
 module _ (r : Rules) where
-  abbrev P : order.Design
-  P = design (program (tables r))
-
-  in_insert : (x : Act Stamp Reads) (ys : List (Act Stamp Reads)) (y : Act Stamp Reads) → In y (order.insert P x ys) → (y ≡ x) ⊎ In y ys
-  in_insert x [] y i = i
-  in_insert x (z ∷ ys) y i = at (order.is_earlier P z x) i (in_insert x ys y)
-    where
-      at : (b : Bool) → In y (if b then x ∷ z ∷ ys else z ∷ order.insert P x ys) → (In y (order.insert P x ys) → (y ≡ x) ⊎ In y ys) → (y ≡ x) ⊎ In y (z ∷ ys)
-      at true j rest = j
-      at false (inl e) rest = inr (inl e)
-      at false (inr j) rest = ⊎_elim (λ e. inl e) (λ k. inr (inr k)) (rest j)
-
-  in_sorted : (xs : List (Act Stamp Reads)) (y : Act Stamp Reads) → In y (sort P xs) → In y xs
-  in_sorted [] y i = i
-  in_sorted (x ∷ xs) y i = ⊎_elim (λ e. inl e) (λ j. inr (in_sorted xs y j)) (in_insert x (sort P xs) y i)
-
   -- the cells of a variable that no later activation writes, if the one more does
   inserted : (x : ℕ) (j : Act Stamp Reads) (ys : List (Act Stamp Reads)) →
-      ((y : Act Stamp Reads) → In y ys → order.is_earlier P y j ≡ false → owns r j.segment x → owns r y.segment x → ⊥) →
-      cells_after r x (order.insert P j ys) ≡ (if has (access_of r j.segment).written x then cells_left r j x else cells_after r x ys)
+      ((y : Act Stamp Reads) → In y ys → order.is_earlier (P r) y j ≡ false → owns r j.segment x → owns r y.segment x → ⊥) →
+      cells_after r x (order.insert (P r) j ys) ≡ (if has (access_of r j.segment).written x then cells_left r j x else cells_after r x ys)
   inserted x j [] none = refl
-  inserted x j (y ∷ ys) none = at (order.is_earlier P y j) refl (inserted x j ys (λ z i. none z (inr i)))
+  inserted x j (y ∷ ys) none = at (order.is_earlier (P r) y j) refl (inserted x j ys (λ z i. none z (inr i)))
     where
-      behind : (b c : Bool) → has (access_of r j.segment).written x ≡ b → has (access_of r y.segment).written x ≡ c → order.is_earlier P y j ≡ false → (rest : List Value) → rest ≡ (if b then cells_left r j x else cells_after r x ys) →
+      behind : (b c : Bool) → has (access_of r j.segment).written x ≡ b → has (access_of r y.segment).written x ≡ c → order.is_earlier (P r) y j ≡ false → (rest : List Value) → rest ≡ (if b then cells_left r j x else cells_after r x ys) →
           (if c then cells_left r y x else rest) ≡ (if b then cells_left r j x else (if c then cells_left r y x else cells_after r x ys))
       behind true true e f h rest k = absurd (none y (inl refl) h e f)
       behind true false e f h rest k = k
       behind false true e f h rest k = refl
       behind false false e f h rest k = k
 
-      at : (b : Bool) → order.is_earlier P y j ≡ b → cells_after r x (order.insert P j ys) ≡ (if has (access_of r j.segment).written x then cells_left r j x else cells_after r x ys) →
-          cells_after r x (if b then j ∷ y ∷ ys else y ∷ order.insert P j ys) ≡ (if has (access_of r j.segment).written x then cells_left r j x else cells_after r x (y ∷ ys))
+      at : (b : Bool) → order.is_earlier (P r) y j ≡ b → cells_after r x (order.insert (P r) j ys) ≡ (if has (access_of r j.segment).written x then cells_left r j x else cells_after r x ys) →
+          cells_after r x (if b then j ∷ y ∷ ys else y ∷ order.insert (P r) j ys) ≡ (if has (access_of r j.segment).written x then cells_left r j x else cells_after r x (y ∷ ys))
       at true h rest = refl
-      at false h rest = behind (has (access_of r j.segment).written x) (has (access_of r y.segment).written x) refl refl h (cells_after r x (order.insert P j ys)) rest
+      at false h rest = behind (has (access_of r j.segment).written x) (has (access_of r y.segment).written x) refl refl h (cells_after r x (order.insert (P r) j ys)) rest
 
 module _ (d : Design) (limits : Limits) (t : Tables) (ready : IsReady d limits t) (sound : Sound (program (tables (rules_of d limits t)))) (every : EveryScheduleOf (tables (rules_of d limits t))) where
   abbrev r : Rules
@@ -186,28 +170,10 @@ module _ (d : Design) (limits : Limits) (t : Tables) (ready : IsReady d limits t
     -- an activation of the log that isn't before a job's place doesn't write what it writes
     none_later : (j : Act Stamp Reads) → In j s.board.out → (x : ℕ) (y : Act Stamp Reads) → In y s.board.log → order.is_earlier (P r) y j ≡ false → owns r j.segment x → owns r y.segment x → ⊥
     none_later j out x y i late o u =
-        every.no_conflict s.board lawful j y out (inl i) (λ e. same (sym e)) (later (compare y.stamp j.stamp))
+        let stands = job_stands r every s.board lawful j out y i in
+        let before = is_out_of_order r every j y stands late in
+        stands.apart before.0 before.1
         (inl (clashing j.segment y.segment x o (or_right (has (access_of r y.segment).read x) (has (access_of r y.segment).written x) u)))
-      where
-        not_before : IsBefore y.stamp j.stamp → ⊥
-        not_before h = let c : true ≡ false = sym (or_left (is_before y.stamp j.stamp) _ (before_yes y.stamp j.stamp h)) ∙ late in absurd cc
-
-        same : y.process ≡ j.process → ⊥
-        same e = not_before (every.own_before s.board lawful j y out i e)
-
-        lower : y.stamp ≡ j.stamp → j.process < y.process
-        lower e = ⊎_elim (λ k. absurd (same k)) (λ k. ⊎_elim (λ lt. absurd (by lt)) (λ gt. gt) k) (cases_order y.process j.process)
-          where
-            by : y.process < j.process → ⊥
-            by lt =
-                let not_after : is_before j.stamp y.stamp ≡ false = before_no j.stamp y.stamp (λ h. irreflexive j.stamp (subst (IsBefore j.stamp) e h)) in
-                let c : true ≡ false = sym (or_right (is_before y.stamp j.stamp) _ (rw (not_after, lt-ltb y.process j.process lt) refl)) ∙ late in
-                absurd cc
-
-        later : IsBefore y.stamp j.stamp ⊎ ((y.stamp ≡ j.stamp) ⊎ IsBefore j.stamp y.stamp) → IsEarlier (model r) j y
-        later (inl h) = absurd (not_before h)
-        later (inr (inl e)) = inr (sym e, lower e)
-        later (inr (inr h)) = inl h
 
     pub put_back : CommitsPutBack r t.advance s
     put_back p j e x =

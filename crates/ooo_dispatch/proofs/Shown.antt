@@ -49,7 +49,7 @@ pub step_off : (s : Stamp) (c : ℕ) (f : Effect) (x : Cycle) → is_on c f ≡ 
 step_off s c f x off = ap (λ b. if b then cycle_after x (record { at = s; effect = f }) else x) off
 
 -- none of the effects is on the channel
-moved_none : (s : Stamp) (c : ℕ) (fs : List Effect) (x : Cycle) → ((f : Effect) → In f fs → is_on c f ≡ true → ⊥) → moved s c fs x ≡ x
+pub moved_none : (s : Stamp) (c : ℕ) (fs : List Effect) (x : Cycle) → ((f : Effect) → In f fs → is_on c f ≡ true → ⊥) → moved s c fs x ≡ x
 moved_none s c [] x none = refl
 moved_none s c (f ∷ fs) x none = ap (moved s c fs) (step_off s c f x (off (is_on c f) refl)) ∙ moved_none s c fs x (λ g i. none g (inr i))
   where

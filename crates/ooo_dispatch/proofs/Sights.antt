@@ -18,7 +18,7 @@ use Rattle.ooo_dispatch.specs.Rules.{has, sight_of, sights}
 abbrev no_signal : SignalSeen
 no_signal = record { value = no_value; changed = false }
 
-abbrev no_fifo : FifoSeen
+abbrev pub no_fifo : FifoSeen
 no_fifo = record { values = []; free = 0 }
 
 module _ (a : Access) (now : Time) where
@@ -38,7 +38,7 @@ module _ (a : Access) (now : Time) where
       at true vs k = refl
       at false vs k = refl
 
-  fifo_over : (n c : ℕ) (x : Channel) (rest : List Seen) → c ≢ n → fifo_seen (sight n x ++ rest) c ≡ fifo_seen rest c
+  pub fifo_over : (n c : ℕ) (x : Channel) (rest : List Seen) → c ≢ n → fifo_seen (sight n x ++ rest) c ≡ fifo_seen rest c
   fifo_over n c (IsSignal x) rest ne = at (has a.signals_read n)
     where
       at : (b : Bool) → fifo_seen ((if b then seen.Signal n x.current (is_time now x.changed) ∷ [] else []) ++ rest) c ≡ fifo_seen rest c

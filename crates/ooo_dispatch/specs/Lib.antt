@@ -8,3 +8,7 @@ pub mod Steps
 pub mod Schedules
 pub mod Worked
 pub mod Goes
+pub mod Banks
+pub mod Reach
+pub mod Inside
+pub mod ReadOff

@@ -29,8 +29,12 @@ ghost use Rattle.ooo_code.specs.declared.limits.Limits.{Limits as LimitsSpec};
 ghost use Rattle.ooo_tables.specs.declared.tables.Tables.{Tables as TablesSpec};
 ghost use Rattle.ooo_tables.specs.Tables.{AreTables};
 ghost use Rattle.ooo_dispatch.specs.declared.step.Step.{Step as StepSpec};
+ghost use Rattle.ooo_dispatch.specs.Banks.{FrontsAreTold, FrontsStay, JobsMayCommit, JobsReadBoard};
 ghost use Rattle.ooo_dispatch.specs.Goes.{ComesToEnd};
+ghost use Rattle.ooo_dispatch.specs.Inside.{AreInside};
 ghost use Rattle.ooo_dispatch.specs.Least.{MayRun, rules_of};
+ghost use Rattle.ooo_dispatch.specs.Reach.{FrontsInReach, JobsLeaveInReach};
+ghost use Rattle.ooo_dispatch.specs.ReadOff.{ReportsAreReadOff};
 ghost use Rattle.ooo_dispatch.specs.Worked.{WorkedSchedule};
 ghost use Rattle.ooo_dispatch.specs.Schedules.{Always, CommitsPutBack, CommitsWalk, CutStays, IsReady};
 ghost use Rattle.ooo_dispatch.specs.Schedules.{NoDeadEnd, NoneOvertakes, NothingAway, StayAllowed};
@@ -305,4 +309,82 @@ pub fn every_list_agrees()
     every_board_agrees();
     every_job_reads();
     every_board_reports();
+}
+
+/// Of every lawful list of steps: what the next job of a process reads is what a bank shows to which the effects of the log
+/// were applied, in the order of the commits, and the cells as the commits left them.
+pub fn jobs_read_board()
+    ensures { (design : DesignSpec) (limits : LimitsSpec) (t : TablesSpec) →
+        IsReady design limits t → Always design limits t JobsReadBoard }
+{
+    tables_are_sound();
+    every_schedule();
+    ooo_code::law::does_as_said();
+}
+
+/// Of every lawful list of steps: the effects of a job that is out may be applied to the bank to which those of the log were
+/// applied, in the order of the commits; and it ran in time, below the limit of deltas.
+pub fn jobs_may_commit()
+    ensures { (design : DesignSpec) (limits : LimitsSpec) (t : TablesSpec) →
+        IsReady design limits t → Always design limits t JobsMayCommit }
+{
+    tables_are_sound();
+    every_schedule();
+    ooo_code::law::does_as_said();
+    ooo_code::law::own_steps_are_seen();
+    jobs_read_board();
+}
+
+/// Of every lawful list of steps: when the events of a wait fire is what such a bank tells.
+pub fn fronts_are_told()
+    ensures { (design : DesignSpec) (limits : LimitsSpec) (t : TablesSpec) →
+        IsReady design limits t → Always design limits t FrontsAreTold }
+{
+    tables_are_sound();
+    every_schedule();
+    ooo_code::law::does_as_said();
+}
+
+/// Of every lawful list of steps: a commit whose effects touch no event of a wait leaves the front by that wait as it was.
+pub fn fronts_stay()
+    ensures { (design : DesignSpec) (limits : LimitsSpec) (t : TablesSpec) →
+        IsReady design limits t → Always design limits t FrontsStay }
+{}
+
+/// Of every lawful list of steps: each front is of a segment of its process, and at a stamp to which delays can be added,
+/// with a delta index up to the limit.
+pub fn fronts_in_reach()
+    ensures { (design : DesignSpec) (limits : LimitsSpec) (t : TablesSpec) →
+        IsReady design limits t → Always design limits t FrontsInReach }
+{
+    tables_are_sound();
+    ooo_code::law::does_as_said();
+}
+
+/// Of every lawful list of steps: a job that is out leaves its process to one of its segments, after a time that can be
+/// counted.
+pub fn jobs_leave_in_reach()
+    ensures { (design : DesignSpec) (limits : LimitsSpec) (t : TablesSpec) →
+        IsReady design limits t → Always design limits t JobsLeaveInReach }
+{
+    tables_are_sound();
+    ooo_code::law::does_as_said();
+}
+
+/// What a segment of a sound design reads, writes or waits on is there.
+pub fn accesses_are_inside()
+    ensures { (r : Rules) → AreRules r → IsSound r.design → AreInside r }
+{}
+
+/// Of every lawful list of steps: each committed activation ran below the limit of deltas, and the operations on each channel
+/// were applied in the order of their stamps. And once the board is over, the run that it reports can be computed from what
+/// is kept in the order of the commits: the operations, the places and the pieces of the activations, those beyond the end
+/// among them, and what may end the run.
+pub fn reports_are_read_off()
+    ensures { (design : DesignSpec) (limits : LimitsSpec) (t : TablesSpec) →
+        IsReady design limits t → Always design limits t ReportsAreReadOff }
+{
+    tables_are_sound();
+    every_schedule();
+    ooo_code::law::does_as_said();
 }

@@ -1,0 +1,14 @@
+use Rattle.ooo_schedules.specs.Model.{empty}
+use Rattle.ooo_dispatch.specs.Least.{rules_of}
+use Rattle.ooo_dispatch.specs.Steps.{nothing_done, replayed}
+use Rattle.ooo_dispatch.proofs.Allowed.{are_rules, job_out, lawful_lists}
+use Rattle.ooo_dispatch.proofs.Reached.{leaves_in_reach}
+use Rattle.ooo_dispatch.proofs.law.jobs_leave_in_reach.Goals as goal
+
+pub returns : goal.returns
+returns c = λ design limits t ready steps h p j e.
+    let rules = are_rules design limits t ready.tables in
+    let r = rules_of design limits t in
+    let s = replayed r (nothing_done r) steps in
+    leaves_in_reach r rules ready.sound c.does_as_said.ensures (c.tables_are_sound.ensures r rules ready.sound) ready.stop s.board
+    (lawful_lists design limits t ready.tables ready.stop (nothing_done r) steps empty h) j (job_out r s p j e)
