@@ -1,0 +1,12 @@
+pub mod Places
+pub mod Below
+pub mod Leasts
+pub mod Choosing
+pub mod Totals
+pub mod Reached
+pub mod Orders
+pub mod Holding
+pub mod Counted
+pub mod Ruling
+pub mod Earliest
+pub mod Firsts

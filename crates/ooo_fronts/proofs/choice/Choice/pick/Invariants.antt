@@ -1,0 +1,13 @@
+-- The best of the processes so far.
+use Rattle.std.proofs.Common.{◌<◌, IfSome}
+use Rattle.ooo_dispatch.specs.Boards.{Board}
+use Rattle.ooo_dispatch.specs.Least.{Advance}
+use Rattle.ooo_dispatch.specs.Rules.{Rules}
+use Rattle.ooo_fronts.specs.Choices.{IsChoiceOf}
+use Rattle.ooo_fronts.proofs.Choosing.{IsBestBelow}
+use Rattle.ooo_fronts.proofs.choice.Choice.pick.Given as goal
+
+abbrev pub invariant-loop-p : goal.invariant-loop-p
+invariant-loop-p l =
+    IfSome l.best (λ at. at.process < l.p)
+    × ((r : Rules) (least : Advance) (b : Board r) → IsChoiceOf r least b l.self → IsBestBelow r least b l.p l.best)

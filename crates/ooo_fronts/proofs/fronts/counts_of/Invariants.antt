@@ -1,0 +1,6 @@
+-- Those so far.
+use Rattle.ooo_fronts.proofs.Counted.{AreCounted}
+use Rattle.ooo_fronts.proofs.fronts.counts_of.Given as goal
+
+abbrev pub invariant-loop-p : goal.invariant-loop-p
+invariant-loop-p l = AreCounted l.tables l.fronts l.p l.counts.items

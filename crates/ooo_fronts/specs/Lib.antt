@@ -1,0 +1,4 @@
+pub mod Fronts
+pub mod Holds
+pub mod Cuts
+pub mod Choices

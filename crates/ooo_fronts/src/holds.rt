@@ -1,0 +1,102 @@
+ghost use Rattle.std.specs.Prelude.{◌≡◌, ◌<◌, ◌≤◌, length};
+ghost use Rattle.ooo_fronts.specs.declared.front.Front.{Front as FrontSpec};
+ghost use Rattle.ooo_fronts.specs.Fronts.{AreAligned, IsFit};
+ghost use Rattle.ooo_fronts.specs.Holds.{clashes_at, hold_at, holds_of, maybe_holds_of, process_in, IsFirstBy};
+
+use crate::front::Front;
+use ooo_tables::Tables;
+use ooo_time::{Stamp, advance};
+
+// The process of segment b.
+fn process_of(tables: &Tables, b: u32) -> u32
+    requires { b < length tables.now.graph.segments }
+    ensures { result ≡ process_in tables.now b }
+{
+    tables.graph.segments.as_slice()[b as usize].process
+}
+
+// Whether segment b at a stamp clashes with the front f of process p: strictly where it comes earlier, and else at the same
+// stamp by a lower process.
+fn clashes_at(tables: &Tables, b: u32, at: Stamp, p: u32, f: Front) -> bool
+    requires aligned { AreAligned tables.now }
+    requires segment { b < length tables.now.graph.segments }
+    requires front { f.segment < length tables.now.graph.segments }
+    ensures { result ≡ clashes_at tables.now b at p f }
+{
+    if at.is_before(f.stamp) {
+        tables.clash.clash(b, f.segment, true)
+    } else if at == f.stamp {
+        process_of(tables, b) < p && tables.clash.clash(b, f.segment, false)
+    } else {
+        false
+    }
+}
+
+// The stamp at which the front g leads to segment b, where that isn't of process p and clashes there with the front f of p.
+fn hold_at(tables: &Tables, g: Front, p: u32, f: Front, b: u32) -> Option<Stamp>
+    requires aligned { AreAligned tables.now }
+    requires segment { b < length tables.now.graph.segments }
+    requires fit { IsFit (length tables.now.graph.segments) g }
+    requires front { f.segment < length tables.now.graph.segments }
+    ensures { result ≡ hold_at tables.now g p f b }
+{
+    if process_of(tables, b) == p {
+        return None;
+    }
+    let Some(delay) = tables.advance.least(g.segment, b) else {
+        return None;
+    };
+    let at = advance(g.stamp, delay);
+    if clashes_at(tables, b, at, p, f) {
+        Some(at)
+    } else {
+        None
+    }
+}
+
+// By how many segments the front g, if there is one, holds the front f of process p up.
+pub(crate) fn holds_of(tables: &Tables, g: Option<Front>, p: u32, f: Front) -> u32
+    requires aligned { AreAligned tables.now }
+    requires fit { (h : FrontSpec) → g ≡ Some h → IsFit (length tables.now.graph.segments) h }
+    requires front { f.segment < length tables.now.graph.segments }
+    ensures exact { result ≡ maybe_holds_of tables.now g p f }
+    ensures few { result ≤ length tables.now.graph.segments }
+{
+    match g {
+        None => 0,
+        Some(g) => count_of(tables, g, p, f),
+    }
+}
+
+// By how many segments the front g holds the front f of process p up. Only those that clash strictly with f's can.
+fn count_of(tables: &Tables, g: Front, p: u32, f: Front) -> u32
+    requires aligned { AreAligned tables.now }
+    requires fit { IsFit (length tables.now.graph.segments) g }
+    requires front { f.segment < length tables.now.graph.segments }
+    ensures { result ≡ holds_of tables.now g p f }
+{
+    let clashing = tables.clash.clashing(f.segment);
+    let mut count = 0;
+    for b in clashing {
+        if hold_at(tables, g, p, f, *b).is_some() {
+            count += 1;
+        }
+    }
+    count
+}
+
+// The first segment by which the front g holds the front f of process p up, with the stamp.
+pub(crate) fn first_of(tables: &Tables, g: Front, p: u32, f: Front) -> Option<(u32, Stamp)>
+    requires aligned { AreAligned tables.now }
+    requires fit { IsFit (length tables.now.graph.segments) g }
+    requires front { f.segment < length tables.now.graph.segments }
+    ensures { IsFirstBy tables.now g p f result }
+{
+    let clashing = tables.clash.clashing(f.segment);
+    for b in clashing {
+        if let Some(at) = hold_at(tables, g, p, f, *b) {
+            return Some((*b, at));
+        }
+    }
+    None
+}
