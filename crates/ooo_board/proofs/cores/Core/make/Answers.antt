@@ -1,0 +1,48 @@
+use Rattle.std.proofs.Common.{◌≡◌, ap, arith, length, map, refl, replicate, subst, sym, ◌∙◌}
+use Rattle.ooo_dispatch.specs.Least.{rules_of}
+use Rattle.ooo_dispatch.specs.Steps.{nothing_done}
+use Rattle.ooo_fronts.specs.declared.choice.State.TheVariants.{Waiting}
+use Rattle.ooo_fronts.specs.Fronts.{AreFit, AreFrontsOf}
+use Rattle.ooo_board.specs.Starting.{first_cells, first_front}
+use Rattle.ooo_board.proofs.Beginning.{few_processes, first_fronts_are, first_fronts_fit, first_states_are, first_variables_are}
+use Rattle.ooo_board.proofs.cores.Core.make.Goals as goal
+
+pub make-requires-2-clause-few : goal.make-requires-2-clause-few
+make-requires-2-clause-few c =
+    let r = rules_of c.args.design.now c.args.limits.now c.args.tables.now in
+    let processes = c.in_ok-processes.processes.items in
+    let are = c.in_ok-processes.ensures c.args.limits.now in
+    let fronts_are : c.in_ok-fronts.fronts.items ≡ map first_front processes = c.in_ok-fronts.ensures ∙ ap (map first_front) c.as_slice.ensures.value in
+    let count = ap length fronts_are ∙ (first_fronts_are r processes are).count in
+    let few = few_processes c.args.design.now c.args.tables.now.graph.segments c.requires.tables.segments in
+    let most = c.requires.tables.few in
+    omega arith
+
+pub make-requires-2-clause-fit : goal.make-requires-2-clause-fit
+make-requires-2-clause-fit c =
+    let r = rules_of c.args.design.now c.args.limits.now c.args.tables.now in
+    let processes = c.in_ok-processes.processes.items in
+    let fronts_are : c.in_ok-fronts.fronts.items ≡ map first_front processes = c.in_ok-fronts.ensures ∙ ap (map first_front) c.as_slice.ensures.value in
+    subst (AreFit (length r.segments)) (sym fronts_are) (first_fronts_fit r processes (c.in_ok-processes.ensures c.args.limits.now) c.requires.tables.segments)
+
+pub returns : goal.returns
+returns c =
+    let r = rules_of c.args.design.now c.args.limits.now c.args.tables.now in
+    let processes = c.in_ok-processes.processes.items in
+    let are = c.in_ok-processes.ensures c.args.limits.now in
+    let fronts = c.in_ok-make-2.field-0 in
+    let count : c.len.result ≡ length processes = omega (arith, c.len.ensures, c.in_ok-processes.processes.ok) in
+    let states_are : c.in_ok-vec.field-0.items ≡ replicate (length processes) Waiting = c.in_ok-vec.ensures.items_if_clones_equal (λ y h. h) ∙ ap (λ n. replicate n Waiting) count in
+    let fronts_are : fronts.fronts ≡ map first_front processes = c.in_ok-make-2.ensures.fronts ∙ c.in_ok-fronts.ensures ∙ ap (map first_front) c.as_slice.ensures.value in
+    record {
+      has_bank = c.in_ok-make.ensures;
+      has_variables = first_variables_are r c.in_ok-first_variables.field-0.items (c.in_ok-first_variables.ensures ∙ ap first_cells c.as_slice-2.ensures);
+      has_processes = are;
+      has_states = first_states_are r (length processes) c.in_ok-vec.field-0.items are.counted states_are;
+      has_fronts = subst (AreFrontsOf r (nothing_done r).board) (sym fronts_are) (first_fronts_are r processes are);
+      has_counts = c.in_ok-make-2.ensures.counts;
+      fit = subst (AreFit (length r.segments)) (sym fronts_are) (first_fronts_fit r processes are c.requires.tables.segments);
+      has_cut = c.new.ensures r refl;
+      has_pieces = c.new-2.ensures.items;
+      has_places = c.new-3.ensures.items;
+    }

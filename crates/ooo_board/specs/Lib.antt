@@ -1,0 +1,13 @@
+pub mod Carrying
+pub mod Links
+pub mod Seeing
+pub mod Cores
+pub mod Jobs
+pub mod Laws
+pub mod Boards
+pub mod Whole
+pub mod Waking
+pub mod Committing
+pub mod Lending
+pub mod Finishing
+pub mod Starting

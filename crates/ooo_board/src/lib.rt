@@ -1,0 +1,22 @@
+//! The board: the simulation of a design step by step, out of order.
+//!
+//! A [`Board`] hands out the next activation of a process as a job and takes back what it did, in any order that the rule of
+//! ooo_dispatch allows, on however many threads the jobs are run. What it keeps is a function of the steps that were made:
+//! the fronts of processes, the clashes that hold them up, the cells of variables, and what was applied to channels and
+//! events.
+#![tactic(auto)]
+
+mod board;
+mod carrying;
+mod committing;
+mod cores;
+mod finishing;
+pub mod law;
+mod laws;
+mod links;
+mod process;
+mod seeing;
+mod starting;
+mod waking;
+
+pub use board::Board;
