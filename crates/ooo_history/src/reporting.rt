@@ -1,4 +1,4 @@
-ghost use Rattle.std.specs.Prelude.{◌≡◌, ◌++◌, ◌<◌, ◌≤◌, ◌↔◌, length, codes, IfOk, OnOk, IsTrue};
+ghost use Rattle.std.specs.Prelude.{◌≡◌, ◌++◌, ◌<◌, ◌≤◌, ◌↔◌, length, codes, List, ℕ, IfOk, OnOk, IsTrue};
 ghost use Rattle.ooo_history.specs.Reporting.{closed, output_text, stamp_text, sign_of, entry_line, history_text, histories_text, place_text, end_text, report_text, IsNamed};
 
 use crate::run::{End, Entry, Piece, Run, What};
@@ -23,6 +23,7 @@ pub fn report(alloc: Global, run: &Run, names: &Names) -> Result<Vec<u8>, AllocE
     close(&mut text)?;
     text.extend_from_slice(b"== histories\n")?;
     append_histories(
+        alloc,
         &mut text,
         names.channels.as_slice(),
         run.channels.as_slice(),
@@ -67,6 +68,7 @@ fn close(text: &mut Vec<u8>) -> Result<(), AllocError>
 }
 
 fn append_histories(
+    alloc: Global,
     text: &mut Vec<u8>,
     names: &[Name],
     channels: &[Items<Entry>],
@@ -76,29 +78,46 @@ fn append_histories(
         (text.new.items ≡ text.old.items ++ histories_text names.now channels.now) }
 {
     for (channel, entries) in channels.iter().enumerate() {
-        append_history(text, names[channel].as_bytes(), entries.as_slice())?;
+        append_history(alloc, text, names[channel].as_bytes(), entries.as_slice())?;
     }
     Ok(())
 }
 
-fn append_history(text: &mut Vec<u8>, name: &[u8], entries: &[Entry]) -> Result<(), AllocError>
+// Appends the lines of a channel, which all start with the same bytes.
+fn append_history(
+    alloc: Global,
+    text: &mut Vec<u8>,
+    name: &[u8],
+    entries: &[Entry],
+) -> Result<(), AllocError>
     ensures { OnOk result (text.new.items ≡ text.old.items ++ history_text name.now entries.now) }
 {
+    let start = line_start(alloc, name)?;
     for entry in entries {
-        append_entry(text, name, *entry)?;
+        append_entry(text, start.as_slice(), *entry)?;
     }
     Ok(())
 }
 
-fn append_entry(text: &mut Vec<u8>, name: &[u8], entry: Entry) -> Result<(), AllocError>
-    ensures { OnOk result (text.new.items ≡ text.old.items ++ entry_line name.now entry) }
+// What stands before the stamp in each line of a channel.
+fn line_start(alloc: Global, name: &[u8]) -> Result<Vec<u8>, AllocError>
+    ensures { IfOk result (λ start. start.items ≡ name.now ++ codes " @ ") }
 {
-    text.extend_from_slice(name)?;
-    text.extend_from_slice(b" @ ")?;
+    let mut start = Vec::from_slice(alloc, name)?;
+    start.extend_from_slice(b" @ ")?;
+    Ok(start)
+}
+
+fn append_entry(text: &mut Vec<u8>, start: &[u8], entry: Entry) -> Result<(), AllocError>
+    ensures { (name : List ℕ) → start.now ≡ name ++ codes " @ " →
+        OnOk result (text.new.items ≡ text.old.items ++ entry_line name entry) }
+{
+    text.extend_from_slice(start)?;
     append_stamp(text, entry.stamp)?;
     text.extend_from_slice(sign(entry.what))?;
     ooo_value::append(text, entry.value)?;
-    text.extend_from_slice(b"\n")
+    text.push(b'\n')?;
+    Ok(())
 }
 
 fn sign(what: What) -> &'static [u8]
@@ -115,7 +134,7 @@ fn append_stamp(text: &mut Vec<u8>, stamp: Stamp) -> Result<(), AllocError>
     ensures { OnOk result (text.new.items ≡ text.old.items ++ stamp_text stamp) }
 {
     ooo_time::append(text, stamp.time)?;
-    text.extend_from_slice(b" ")?;
+    text.push(b' ')?;
     text.extend_from_slice(Buffer::new().format(stamp.delta).as_bytes())
 }
 
