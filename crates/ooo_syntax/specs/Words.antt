@@ -135,29 +135,29 @@ words =
 -- the signs
 unfoldable pub signs : List Written
 signs =
-    as_is (codes "!") terminal.Not ∷
-    as_is (codes "%") terminal.Percent ∷
-    as_is (codes "&") terminal.And ∷
+    as_is (codes ";") terminal.Semicolon ∷
     as_is (codes "(") terminal.Open ∷
     as_is (codes ")") terminal.Close ∷
-    as_is (codes "*") terminal.Star ∷
-    as_is (codes "+") terminal.Plus ∷
+    as_is (codes "{") terminal.OpenBrace ∷
+    as_is (codes "}") terminal.CloseBrace ∷
     as_is (codes ",") terminal.Comma ∷
-    as_is (codes "-") terminal.Minus ∷
-    as_is (codes ".") terminal.Dot ∷
-    as_is (codes "/") terminal.Slash ∷
-    as_is (codes ":") terminal.Colon ∷
-    as_is (codes ";") terminal.Semicolon ∷
-    as_is (codes "<") terminal.Less ∷
     as_is (codes "=") terminal.Assign ∷
-    as_is (codes ">") terminal.Greater ∷
-    as_is (codes "?") terminal.Question ∷
+    as_is (codes ".") terminal.Dot ∷
+    as_is (codes "<") terminal.Less ∷
+    as_is (codes "+") terminal.Plus ∷
+    as_is (codes "-") terminal.Minus ∷
+    as_is (codes "*") terminal.Star ∷
     as_is (codes "[") terminal.OpenBracket ∷
     as_is (codes "]") terminal.CloseBracket ∷
-    as_is (codes "^") terminal.Xor ∷
-    as_is (codes "{") terminal.OpenBrace ∷
+    as_is (codes "&") terminal.And ∷
+    as_is (codes ">") terminal.Greater ∷
+    as_is (codes ":") terminal.Colon ∷
+    as_is (codes "!") terminal.Not ∷
+    as_is (codes "/") terminal.Slash ∷
+    as_is (codes "%") terminal.Percent ∷
     as_is (codes "|") terminal.Or ∷
-    as_is (codes "}") terminal.CloseBrace ∷
+    as_is (codes "^") terminal.Xor ∷
+    as_is (codes "?") terminal.Question ∷
     as_is (codes "~") terminal.Tilde ∷
     as_is (codes "!=") terminal.NotEqual ∷
     as_is (codes "%=") terminal.RemainderAssign ∷

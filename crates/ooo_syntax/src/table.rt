@@ -501,16 +501,8 @@ pub(crate) const SIGNS: [&[Row]; 4] = [
     &[],
     &[
         Row {
-            bytes: b"!",
-            terminal: Terminal::Not,
-        },
-        Row {
-            bytes: b"%",
-            terminal: Terminal::Percent,
-        },
-        Row {
-            bytes: b"&",
-            terminal: Terminal::And,
+            bytes: b";",
+            terminal: Terminal::Semicolon,
         },
         Row {
             bytes: b"(",
@@ -521,52 +513,40 @@ pub(crate) const SIGNS: [&[Row]; 4] = [
             terminal: Terminal::Close,
         },
         Row {
-            bytes: b"*",
-            terminal: Terminal::Star,
+            bytes: b"{",
+            terminal: Terminal::OpenBrace,
         },
         Row {
-            bytes: b"+",
-            terminal: Terminal::Plus,
+            bytes: b"}",
+            terminal: Terminal::CloseBrace,
         },
         Row {
             bytes: b",",
             terminal: Terminal::Comma,
         },
         Row {
-            bytes: b"-",
-            terminal: Terminal::Minus,
+            bytes: b"=",
+            terminal: Terminal::Assign,
         },
         Row {
             bytes: b".",
             terminal: Terminal::Dot,
         },
         Row {
-            bytes: b"/",
-            terminal: Terminal::Slash,
-        },
-        Row {
-            bytes: b":",
-            terminal: Terminal::Colon,
-        },
-        Row {
-            bytes: b";",
-            terminal: Terminal::Semicolon,
-        },
-        Row {
             bytes: b"<",
             terminal: Terminal::Less,
         },
         Row {
-            bytes: b"=",
-            terminal: Terminal::Assign,
+            bytes: b"+",
+            terminal: Terminal::Plus,
         },
         Row {
-            bytes: b">",
-            terminal: Terminal::Greater,
+            bytes: b"-",
+            terminal: Terminal::Minus,
         },
         Row {
-            bytes: b"?",
-            terminal: Terminal::Question,
+            bytes: b"*",
+            terminal: Terminal::Star,
         },
         Row {
             bytes: b"[",
@@ -577,20 +557,40 @@ pub(crate) const SIGNS: [&[Row]; 4] = [
             terminal: Terminal::CloseBracket,
         },
         Row {
-            bytes: b"^",
-            terminal: Terminal::Xor,
+            bytes: b"&",
+            terminal: Terminal::And,
         },
         Row {
-            bytes: b"{",
-            terminal: Terminal::OpenBrace,
+            bytes: b">",
+            terminal: Terminal::Greater,
+        },
+        Row {
+            bytes: b":",
+            terminal: Terminal::Colon,
+        },
+        Row {
+            bytes: b"!",
+            terminal: Terminal::Not,
+        },
+        Row {
+            bytes: b"/",
+            terminal: Terminal::Slash,
+        },
+        Row {
+            bytes: b"%",
+            terminal: Terminal::Percent,
         },
         Row {
             bytes: b"|",
             terminal: Terminal::Or,
         },
         Row {
-            bytes: b"}",
-            terminal: Terminal::CloseBrace,
+            bytes: b"^",
+            terminal: Terminal::Xor,
+        },
+        Row {
+            bytes: b"?",
+            terminal: Terminal::Question,
         },
         Row {
             bytes: b"~",
