@@ -90,7 +90,7 @@ module _ (b : Shown) (c : Core) (kept : IsKept b c) (laws : Laws) (p : ℕ) (may
     out_is : next.board.out ≡ j ∷ s.board.out
     out_is = ap (λ o. (dispatched_at r s.board p o).out) at_front.may.front
 
-    others_go : (q : ℕ) → q ≢ p → job_of r next q ≡ job_of r s q
+    pub others_go : (q : ℕ) → q ≢ p → job_of r next q ≡ job_of r s q
     others_go q differs = ap (λ o. if has s.abandoned q then None else o) (ap (last q) out_is ∙ last_past q j s.board.out (λ e. differs (sym e)))
 
     goes : job_of r next p ≡ Some j

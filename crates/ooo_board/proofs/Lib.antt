@@ -1,6 +1,7 @@
 pub mod Parts
 pub mod Looking
 pub mod Steps
+pub mod Keeping
 pub mod States
 pub mod Chosen
 pub mod Ending

@@ -23,7 +23,7 @@ use Rattle.ooo_fronts.specs.declared.front.Hold.{Hold}
 use Rattle.ooo_fronts.specs.declared.choice.State.{State}
 use Rattle.ooo_fronts.specs.declared.choice.State.TheVariants.{Waiting, Running, Abandoned}
 use Rattle.ooo_board.specs.Cores.{after}
-use Rattle.ooo_board.specs.Jobs.{IsJobOf}
+use Rattle.ooo_board.specs.Jobs.{Gives, IsJobOf}
 
 -- a board is seen as its design with the limits and tables, and the steps that were made
 pub record Shown : Type 0 where
@@ -65,6 +65,10 @@ pub record IsDoneFor (job : Job) (done : Done) : Type 0 where
 -- each job and each committed activation reads what that of the sequential run reads
 abbrev pub ReadsAsInRun : Shown → Type 0
 ReadsAsInRun b = (result : Result) → IsSequentialRun b.design b.limits result → JobsRead (rules b) (state b).board result
+
+-- what can be committed at the old board for another process than p can be at the new one
+abbrev pub LeavesOthers : (old new : Shown) → (p : ℕ) → Type 0
+LeavesOthers old new p = (done : Done) → done.process ≢ p → Gives (rules old) (state old) done → Gives (rules new) (state new) done
 
 -- ---- how many run
 

@@ -13,7 +13,7 @@ ghost use Rattle.ooo_fronts.specs.Choices.{HasFrontBelow, IsChoiceOf, IsPick, Pi
 ghost use Rattle.ooo_fronts.specs.declared.front.Front.{Front as FrontSpec};
 ghost use Rattle.ooo_fronts.specs.Holds.{AreCounts};
 ghost use Rattle.ooo_fronts.specs.Fronts.{AreFrontsOf, maybe_front};
-ghost use Rattle.ooo_board.specs.Boards.{CouldRun, HandsOut, IsDoneFor, IsHolder, IsOver, MayBeDispatched, ReadsAsInRun, rules, state, with_step};
+ghost use Rattle.ooo_board.specs.Boards.{CouldRun, HandsOut, IsDoneFor, IsHolder, IsOver, LeavesOthers, MayBeDispatched, ReadsAsInRun, rules, state, with_step};
 ghost use Rattle.ooo_board.specs.Jobs.{Gives};
 ghost use Rattle.ooo_board.specs.Starting.{AreInRange, HaveNumbers};
 
@@ -200,6 +200,9 @@ impl Board {
         ensures gives { IfOk result (λ job. (done : DoneSpec) → IsDoneFor job done →
             Gives (rules self.new) (state self.new) done) }
 
+        // What can be committed for other jobs that are out can still be.
+        ensures others { OnOk result (LeavesOthers self.old self.new p) }
+
         // It reads what the activation of that process and number sees in the sequential run, if that has it.
         ensures reads { OnOk result (ReadsAsInRun self.new) }
 
@@ -238,6 +241,9 @@ impl Board {
         ensures step { OnOk result (self.new ≡ with_step self.old (step.Commit done.process)) }
         ensures refused { IfErr result (λ e. (self.new ≡ self.old) × (e.1 ≡ done)) }
 
+        // What can be committed for other jobs that are out can still be.
+        ensures others { OnOk result (LeavesOthers self.old self.new done.process) }
+
         // Each front after it was there, and not later, or by the table the job leads to it.
         ensures walks { CommitsWalk (rules self.old) self.old.tables.advance (state self.old) }
 
@@ -271,7 +277,10 @@ impl Board {
     /// Gives up the job of process `p` that is out: nothing can be dispatched from then on. It takes no memory.
     pub fn abandon(&mut self, p: u32)
         requires { IsSome (job_of (rules self.old) (state self.old) p) }
-        ensures { self.new ≡ with_step self.old (step.Abandon p) }
+        ensures step { self.new ≡ with_step self.old (step.Abandon p) }
+
+        // What can be committed for other jobs that are out can still be.
+        ensures others { LeavesOthers self.old self.new p }
     {
         laws();
         self.core.states[p as usize] = State::Abandoned;

@@ -1,10 +1,11 @@
 -- What the job did is taken in, and it is out no more; the rest are laws.
 use Rattle.std.proofs.Common.{◌≡◌, ◌≤◌, ◌∙◌, ap, arith, refl, subst, sym}
 use Rattle.ooo_dispatch.specs.declared.step.Step.TheVariants.{Commit}
-use Rattle.ooo_board.specs.Boards.{rules, running_in, state, with_step}
+use Rattle.ooo_board.specs.Boards.{LeavesOthers, rules, running_in, state, with_step}
 use Rattle.ooo_board.specs.Cores.{MayTakeIn}
 use Rattle.ooo_board.specs.Jobs.{Gives}
 use Rattle.ooo_board.proofs.Ending.{again, at_stamp, ended, front_within, gives_some, has_front, none_back, on_ok, others_back, runs_one}
+use Rattle.ooo_board.proofs.Keeping.{leaves_others}
 use Rattle.ooo_board.proofs.Steps.{IsKept, view_of, view_with}
 use Rattle.ooo_board.proofs.board.Board.commit.Goals as goal
 
@@ -81,6 +82,16 @@ returns-clause-step c =
     let i = c.self.inside in
     subst (λ x. record { design = i.design.value; limits = i.limits; tables = i.tables; schedule = c.push_reserved.new.self.items } ≡ with_step x (Commit c.args.done.process)) c.self.view_is
     (ap (λ steps. view_with i.design.value i.limits i.tables steps) c.push_reserved.ensures.items)
+
+pub returns-clause-others : goal.returns-clause-others
+returns-clause-others c =
+    let i = c.self.inside in
+    let b = view_of i.design.value i.limits i.tables i.schedule in
+    let gives : Gives (rules b) (state b) c.args.done = subst (λ x. Gives (rules x) (state x) c.args.done) (sym c.self.view_is) c.requires in
+    let new = view_of i.design.value i.limits i.tables c.push_reserved.new.self in
+    subst (λ x. LeavesOthers x new c.args.done.process) c.self.view_is
+    (leaves_others b new (Commit c.args.done.process) c.args.done.process (ap (λ steps. view_with i.design.value i.limits i.tables steps) c.push_reserved.ensures.items)
+    (others_back (rules b) (state b) c.args.done.process gives.job gives.out))
 
 pub returns-then-is_err-clause-walks : goal.returns-then-is_err-clause-walks
 returns-then-is_err-clause-walks c =

@@ -1,9 +1,10 @@
 -- The job goes out; the rest are laws.
 use Rattle.std.proofs.Common.{◌≡◌, ◌∙◌, ◌++◌, [], ◌∷◌, ap, arith, subst, sym}
 use Rattle.ooo_dispatch.specs.declared.step.Step.TheVariants.{Dispatch}
-use Rattle.ooo_board.specs.Boards.{HandsOut, MayBeDispatched, with_step}
+use Rattle.ooo_board.specs.Boards.{HandsOut, LeavesOthers, MayBeDispatched, with_step}
 use Rattle.ooo_board.specs.Whole.{IsWhole}
-use Rattle.ooo_board.proofs.Going.{at_front, few_jobs, front_within, gives, hands_out, has_front, sent, wider}
+use Rattle.ooo_board.proofs.Going.{at_front, few_jobs, front_within, gives, hands_out, has_front, others_go, sent, wider}
+use Rattle.ooo_board.proofs.Keeping.{leaves_others}
 use Rattle.ooo_board.proofs.Steps.{IsKept, view_of, view_with}
 use Rattle.ooo_board.proofs.board.Board.dispatch.Goals as goal
 
@@ -96,6 +97,18 @@ returns-clause-gives c = λ done for.
     let out = c.in_ok-job.ensures.out b.schedule c.self.invariant.has (at_front b i.core c.self.invariant.has c.laws.ensures c.args.p may c.in-Some.front own) in
     let items = c.push_reserved.ensures.items ∙ ap (λ steps. steps ++ Dispatch c.args.p ∷ []) c.reserve.ensures.items in
     gives b i.core c.self.invariant.has c.laws.ensures c.args.p may c.in-Some.front own c.push_reserved.new.self.items c.dispatch.new.self c.in_ok-job.job done items out for
+
+pub returns-clause-others : goal.returns-clause-others
+returns-clause-others c =
+    let i = c.self.inside in
+    let b = view_of i.design.value i.limits i.tables i.schedule in
+    let may : MayBeDispatched b c.args.p = subst (λ x. MayBeDispatched x c.args.p) (sym c.self.view_is) c.requires in
+    let own = sym c.in-Some.ensures in
+    let items = c.push_reserved.ensures.items ∙ ap (λ steps. steps ++ Dispatch c.args.p ∷ []) c.reserve.ensures.items in
+    let new = view_of i.design.value i.limits i.tables c.push_reserved.new.self in
+    subst (λ x. LeavesOthers x new c.args.p) c.self.view_is
+    (leaves_others b new (Dispatch c.args.p) c.args.p (ap (λ steps. view_with i.design.value i.limits i.tables steps) items)
+    (others_go b i.core c.self.invariant.has c.laws.ensures c.args.p may c.in-Some.front own))
 
 pub returns-clause-reads : goal.returns-clause-reads
 returns-clause-reads c = λ result run.
