@@ -11,7 +11,7 @@ use Rattle.ooo_time.specs.Delays.{advanced}
 use Rattle.ooo_dispatch.specs.Rules.{Rules}
 use Rattle.ooo_fronts.specs.declared.choice.Choice.{Choice}
 use Rattle.ooo_fronts.specs.Choices.{AreStatesOf, IsChoiceOf}
-use Rattle.ooo_fronts.specs.Cuts.{IsCutOf, IsLeastStamp}
+use Rattle.ooo_fronts.specs.Cuts.{IsCutOf}
 use Rattle.ooo_fronts.specs.declared.front.Front.{Front}
 use Rattle.ooo_fronts.specs.Fronts.{AreFrontsOf, front_is, kept_front, maybe_front}
 use Rattle.ooo_fronts.specs.declared.front.Hold.{Hold}
@@ -25,13 +25,12 @@ use Rattle.ooo_board.proofs.States.{are_states}
 -- what a core keeps of the board is what is chosen from
 pub is_choice : (b : Shown) (c : Core) → IsKept b c → Laws → (choice : Choice) →
     choice.states.now ≡ c.states.items → choice.fronts.now ≡ c.fronts.fronts → choice.held.now ≡ c.fronts.counts → choice.cut.now ≡ c.cut →
-    IsLeastStamp (rules b) (state b).board choice.first → IsChoiceOf (rules b) b.tables.advance (state b).board choice
-is_choice b c has laws choice states fronts held cut first = record {
+    IsChoiceOf (rules b) b.tables.advance (state b).board choice
+is_choice b c has laws choice states fronts held cut = record {
   states = subst (AreStatesOf (rules b) (state b).board) (sym states) (are_states (rules b) (state b) c.states.items has.core.has_states);
   fronts = subst (AreFrontsOf (rules b) (state b).board) (sym fronts) has.core.has_fronts;
   held = rw (fronts, held) ((laws b.design b.limits b.tables has.stands.ready).counts c.fronts.fronts c.fronts.counts has.core.has_counts);
   cut = subst (IsCutOf (rules b) (state b).board.log) (sym cut) has.core.has_cut;
-  first = first;
 }
 
 -- ---- who could run

@@ -328,6 +328,7 @@ impl Board {
     }
 
     // What a process is chosen from.
+    #[inline(always)]
     fn choice(&self) -> Choice<'_>
         ensures of { IsChoiceOf (rules self.now) self.now.tables.advance (state self.now).board result }
         ensures fronts { length result.fronts.now ≡ length self.now.design.processes }
@@ -340,7 +341,6 @@ impl Board {
             fronts: self.core.fronts.fronts(),
             held: self.core.fronts.counts(),
             cut: &self.core.cut,
-            first: self.core.fronts.least(),
         }
     }
 }

@@ -1,6 +1,5 @@
 -- Who may run, process by process.
-use Rattle.std.specs.Option.{is_some}
-use Rattle.std.proofs.Common.{◌≡◌, ◌≢◌, ◌↔◌, IsTrue, IfSome, ℕ, ◌+◌, ◌<◌, ⊎_elim, List, length, Option, Some, None, refl, sym, ap, ◌∙◌, subst, arith, slice_index_or}
+use Rattle.std.proofs.Common.{◌≡◌, ◌≢◌, ◌↔◌, Bool, IsTrue, IfSome, ℕ, ◌+◌, ◌<◌, ⊎_elim, List, length, Option, Some, None, sym, ap, ◌∙◌, subst, arith, slice_index_or}
 use Rattle.std.proofs.lemmas.Bool.{cases_eq, cases_lt, cases_order}
 use Rattle.std.proofs.lemmas.List.{get_or_past}
 use Rattle.ooo_time.specs.declared.stamp.Stamp.{Stamp}
@@ -9,15 +8,19 @@ use Rattle.ooo_time.specs.Stamps.{ComesBefore}
 use Rattle.ooo_meaning.specs.World.{place_of}
 use Rattle.ooo_schedules.specs.Model as board
 use Rattle.ooo_dispatch.specs.Boards.{Board, IsFront, model}
-use Rattle.ooo_dispatch.specs.Least.{Advance, MayRun}
+use Rattle.ooo_dispatch.specs.Least.{Advance, IsBelowCut, MayRun}
 use Rattle.ooo_dispatch.specs.Rules.{Rules}
 use Rattle.ooo_dispatch.specs.Schedules.{NoDeadEnd}
 use Rattle.ooo_dispatch.specs.Steps.{Replay}
+use Rattle.ooo_fronts.specs.declared.choice.Choice.{Choice}
 use Rattle.ooo_fronts.specs.declared.front.Front.{Front}
 use Rattle.ooo_fronts.specs.Fronts.{AreFrontsOf, front_is, maybe_front}
-use Rattle.ooo_fronts.specs.Choices.{IsEarlierOf, IsPick, IsReadyAt, MayRunNow, PicksLeast}
+use Rattle.ooo_fronts.specs.Choices.{AllBelowLimit, IsBelowLimit, IsChoiceOf, IsEarlierOf, IsPick, IsReady, IsReadyAt, MayRunNow, PicksLeast}
+use Rattle.ooo_fronts.proofs.Below.{below_before}
+use Rattle.ooo_fronts.proofs.Earliest.{earliest, least_on_board}
 use Rattle.ooo_fronts.proofs.Leasts.{least_below, not_at_limit, some_is, some_least}
 use Rattle.ooo_fronts.proofs.Places.{compare_places, joins, not_both}
+use Rattle.ooo_fronts.proofs.Ruling.{kept_is}
 
 -- ---- fronts
 
@@ -34,18 +37,29 @@ module _ (r : Rules) (b : Board r) (fronts : List (Option Front)) (k : AreFronts
   pub front_within : (p : ℕ) (g : board.Front Stamp) → IsFront r b p g → p < length fronts
   front_within p g i = ⊎_elim (λ h. h) (λ h. absurd (no_front p g (get_or_past fronts p None h) i)) (cases_lt p (length fronts))
 
+-- where each front that is kept is below the limit of deltas, each of the board is
+pub all_below : (r : Rules) (least : Advance) (b : Board r) (choice : Choice) → IsChoiceOf r least b choice → AllBelowLimit choice → (q : ℕ) (g : board.Front Stamp) → IsFront r b q g → g.stamp.delta < r.limits.deltas
+all_below r least b choice k all q g i =
+    let x = kept_is choice.fronts.now q g (sym (k.fronts.each q) ∙ i) in
+    subst (λ d. g.stamp.delta < d) k.cut.deltas (subst (λ (y : board.Front Stamp). y.stamp.delta < choice.cut.now.deltas) x.2 (all q x.0 x.1))
+
+-- the front of one process more
+pub below_more : (choice : Choice) (n : ℕ) → ((q : ℕ) → q < n → IsBelowLimit choice q) → IsBelowLimit choice n → (q : ℕ) → q < n + 1 → IsBelowLimit choice q
+below_more choice n all one q k =
+    ⊎_elim (λ e. subst (IsBelowLimit choice) (sym e) one) (λ d. all q (⊎_elim (λ x. x) (λ x. absurd (d (omega (arith, x, k)))) (cases_lt q n))) (cases_eq q n)
+
 -- ---- the best of those so far
 
--- of the processes below n that may run, the one at this place comes first
+-- of the processes below n that may run but for the cut, the one at this place comes first
 pub record IsBest (r : Rules) (least : Advance) (b : Board r) (n : ℕ) (at : Place) : Type 0 where
   pub front : board.Front Stamp
-  pub may : MayRun r least b at.process front
+  pub ready : IsReady r least b at.process front
   pub place : at ≡ place_of front.stamp at.process
   pub below : at.process < n
-  pub first : (q : ℕ) (g : board.Front Stamp) → q < n → q ≢ at.process → MayRun r least b q g → ComesBefore at (place_of g.stamp q)
+  pub first : (q : ℕ) (g : board.Front Stamp) → q < n → q ≢ at.process → IsReady r least b q g → ComesBefore at (place_of g.stamp q)
 
 abbrev pub IsBestBelow : (r : Rules) → Advance → Board r → (n : ℕ) → Option Place → Type 0
-IsBestBelow r least b n None = (q : ℕ) (g : board.Front Stamp) → q < n → MayRun r least b q g → ⊥
+IsBestBelow r least b n None = (q : ℕ) (g : board.Front Stamp) → q < n → IsReady r least b q g → ⊥
 IsBestBelow r least b n (Some at) = IsBest r least b n at
 
 module _ (r : Rules) (least : Advance) (b : Board r) (n : ℕ) where
@@ -53,40 +67,40 @@ module _ (r : Rules) (least : Advance) (b : Board r) (n : ℕ) where
   under q k d = ⊎_elim (λ e. absurd (d e)) (λ x. ⊎_elim (λ y. y) (λ y. absurd (omega (arith, y, k))) x) (cases_order q n)
 
   -- the process at a place, and another front of it
-  same_place : (at : Place) (p : ℕ) (f g : board.Front Stamp) → at ≡ place_of f.stamp p → MayRun r least b p f → MayRun r least b p g → at ≡ place_of g.stamp p
+  same_place : (at : Place) (p : ℕ) (f g : board.Front Stamp) → at ≡ place_of f.stamp p → IsReady r least b p f → IsReady r least b p g → at ≡ place_of g.stamp p
   same_place at p f g e m w = e ∙ ap (λ x. place_of x.stamp p) (some_is f g (sym m.front ∙ w.front))
 
   -- process n is the best then
-  is_best : (at : Place) → IsReadyAt r least b n (Some at) → ((q : ℕ) (g : board.Front Stamp) → q < n → MayRun r least b q g → ComesBefore at (place_of g.stamp q)) → IsBest r least b (n + 1) at
+  is_best : (at : Place) → IsReadyAt r least b n (Some at) → ((q : ℕ) (g : board.Front Stamp) → q < n → IsReady r least b q g → ComesBefore at (place_of g.stamp q)) → IsBest r least b (n + 1) at
   is_best at (f, m, e) h =
       let p : at.process ≡ n = ap (λ x. x.process) e in
       record {
         front = f;
-        may = subst (λ t. MayRun r least b t f) (sym p) m;
+        ready = subst (λ t. IsReady r least b t f) (sym p) m;
         place = e ∙ ap (place_of f.stamp) (sym p);
         below = omega (arith, p);
         first = λ q g k d w. h q g (under q k (λ x. d (x ∙ sym p))) w;
       }
 
   -- the best so far stays so
-  stays_best : (at : Place) → IsBest r least b n at → ((g : board.Front Stamp) → MayRun r least b n g → ComesBefore at (place_of g.stamp n)) → IsBest r least b (n + 1) at
+  stays_best : (at : Place) → IsBest r least b n at → ((g : board.Front Stamp) → IsReady r least b n g → ComesBefore at (place_of g.stamp n)) → IsBest r least b (n + 1) at
   stays_best at h k = record {
     front = h.front;
-    may = h.may;
+    ready = h.ready;
     place = h.place;
     below = let x = h.below in omega (arith, x);
-    first = λ q g l d w. ⊎_elim (λ e. subst (λ t. ComesBefore at (place_of g.stamp t)) (sym e) (k g (subst (λ t. MayRun r least b t g) e w))) (λ c. h.first q g (under q l c) d w) (cases_eq q n);
+    first = λ q g l d w. ⊎_elim (λ e. subst (λ t. ComesBefore at (place_of g.stamp t)) (sym e) (k g (subst (λ t. IsReady r least b t g) e w))) (λ c. h.first q g (under q l c) d w) (cases_eq q n);
   }
 
   pub one_more : (best ready next : Option Place) → IsEarlierOf best ready next → IsBestBelow r least b n best → IsReadyAt r least b n ready → IsBestBelow r least b (n + 1) next
   one_more None None next e h i =
-      subst (IsBestBelow r least b (n + 1)) (sym e) (λ q g k w. ⊎_elim (λ x. i g (subst (λ t. MayRun r least b t g) x w)) (λ c. h q g (under q k c) w) (cases_eq q n))
+      subst (IsBestBelow r least b (n + 1)) (sym e) (λ q g k w. ⊎_elim (λ x. i g (subst (λ t. IsReady r least b t g) x w)) (λ c. h q g (under q k c) w) (cases_eq q n))
   one_more None (Some at) next e h i = subst (IsBestBelow r least b (n + 1)) (sym e) (is_best at i (λ q g k w. absurd (h q g k w)))
   one_more (Some at) None next e h i = subst (IsBestBelow r least b (n + 1)) (sym e) (stays_best at h (λ g w. absurd (i g w)))
   one_more (Some at) (Some other) next e h i =
       ⊎_elim
       (λ x. subst (IsBestBelow r least b (n + 1)) (sym x.1) (is_best other i (λ q g k w.
-      ⊎_elim (λ y. let z = same_place at at.process h.front g h.place h.may (subst (λ t. MayRun r least b t g) y w) in subst (ComesBefore other) (z ∙ ap (place_of g.stamp) (sym y)) x.0)
+      ⊎_elim (λ y. let z = same_place at at.process h.front g h.place h.ready (subst (λ t. IsReady r least b t g) y w) in subst (ComesBefore other) (z ∙ ap (place_of g.stamp) (sym y)) x.0)
       (λ c. joins other at (place_of g.stamp q) x.0 (h.first q g k c w)) (cases_eq q at.process))))
       (λ x. subst (IsBestBelow r least b (n + 1)) (sym x.1) (stays_best at h (λ g w.
       let z : other ≡ place_of g.stamp n = same_place other n i.0 g i.2 i.1 w in
@@ -102,19 +116,41 @@ within_more n (Some at) (Some other) next e h k =
     ⊎_elim (λ x. subst (λ x. IfSome x (λ at. at.process < n + 1)) (sym x.1) (omega (arith, k)))
     (λ x. subst (λ x. IfSome x (λ at. at.process < n + 1)) (sym x.1) (omega (arith, h))) e
 
+-- who may run may do so but for the cut
+ready_where : (r : Rules) (least : Advance) (b : Board r) (p : ℕ) (f : board.Front Stamp) → MayRun r least b p f → IsReady r least b p f
+ready_where r least b p f m = record { idle = m.idle; front = m.front; below_limit = m.below_limit; free = m.free }
+
+may_below : (r : Rules) (least : Advance) (b : Board r) (p : ℕ) (f : board.Front Stamp) → IsReady r least b p f → IsBelowCut r b f.stamp p → MayRun r least b p f
+may_below r least b p f h c = record { idle = h.idle; front = h.front; below_cut = c; below_limit = h.below_limit; free = h.free }
+
 -- none is left
 module _ (r : Rules) (least : Advance) (b : Board r) (n : ℕ) (all : (q : ℕ) (g : board.Front Stamp) → IsFront r b q g → q < n) where
   pub picks_none : IsBestBelow r least b n None → IsPick r least b None
-  picks_none h = λ q g w. h q g (all q g w.front) w
+  picks_none h = λ q g w. h q g (all q g w.front) (ready_where r least b q g w)
 
-  pub picks : (at : Place) → IsBestBelow r least b n (Some at) → IsPick r least b (Some at.process)
-  picks at h = (h.front, h.may, λ q g d w. subst (λ x. ComesBefore x (place_of g.stamp q)) h.place (h.first q g (all q g w.front) d w))
+  -- the first is below the cut
+  pub picks : (at : Place) → IsBestBelow r least b n (Some at) → IsBelowCut r b at.stamp at.process → IsPick r least b (Some at.process)
+  picks at h c = (
+    h.front,
+    may_below r least b at.process h.front h.ready (subst (λ x. IsBelowCut r b x.stamp x.process) h.place c),
+    λ q g d w. subst (λ x. ComesBefore x (place_of g.stamp q)) h.place (h.first q g (all q g w.front) d (ready_where r least b q g w)),
+  )
+
+  -- the first isn't, so none is
+  pub picks_cut_off : (at : Place) → IsBestBelow r least b n (Some at) → (IsBelowCut r b at.stamp at.process → ⊥) → IsPick r least b None
+  picks_cut_off at h c = λ q g w.
+      ⊎_elim
+      (λ e.
+      let z : at ≡ place_of g.stamp at.process = same_place r least b n at at.process h.front g h.place h.ready (subst (λ t. IsReady r least b t g) e (ready_where r least b q g w)) in
+      c (subst (λ x. IsBelowCut r b x.stamp x.process) (sym (z ∙ ap (place_of g.stamp) (sym e))) w.below_cut))
+      (λ d. c (below_before r b at (place_of g.stamp q) (h.first q g (all q g w.front) d (ready_where r least b q g w)) w.below_cut)) (cases_eq q at.process)
 
 -- ---- where no process runs
 
 pub picks_least : (r : Rules) (least : Advance) (s : Replay r) → NoDeadEnd r least s → PicksLeast r least s
-picks_least r least s law quiet up first l p h pick k =
-    let w = some_least r s.board first l p h.0 h.1 in
+picks_least r least s law quiet up kept are p h pick k =
+    let first = earliest kept in
+    let w = some_least r s.board first.0 (least_on_board r s.board kept first.0 are first.1) p h.0 h.1 in
     let x = w.1 in
     let c = least_below r s.board p h.0 h.1 x.process x.front x.has x.is_least h.2 in
     let n = not_at_limit r s.board p h.0 h.1 x.process x.front x.has x.is_least h.2 in
@@ -128,7 +164,12 @@ picks_least r least s law quiet up first l p h pick k =
         ⊎_elim (λ e. ap Some (sym e))
         (λ d. absurd (not_both (place_of k.0.stamp o) (place_of g.stamp q) (k.2 q g d m) (least_q o k.0 (λ x. d (sym x)) k.1.front))) (cases_eq q o)
 
--- a process may run just where it may at some place
-pub may_where : (r : Rules) (least : Advance) (b : Board r) (p : ℕ) (ready : Option Place) → IsReadyAt r least b p ready → IsTrue (is_some ready) ↔ MayRunNow r least b p
-may_where r least b p None i = (λ t. absurd cc, λ h. absurd (i h.0 h.1))
-may_where r least b p (Some at) i = (λ t. (i.0, i.1), λ h. refl)
+-- a process that may run but for the cut may run just where its place is below that
+pub may_where : (r : Rules) (least : Advance) (b : Board r) (p : ℕ) (at : Place) → IsReadyAt r least b p (Some at) → (t : Bool) → IsTrue t ↔ IsBelowCut r b at.stamp at.process → IsTrue t ↔ MayRunNow r least b p
+may_where r least b p at i t k = (
+  λ h. (i.0, may_below r least b p i.0 i.1 (subst (λ x. IsBelowCut r b x.stamp x.process) i.2 (k.0 h))),
+  λ h. k.1 (subst (λ x. IsBelowCut r b x.stamp x.process) (sym (i.2 ∙ ap (λ (x : board.Front Stamp). place_of x.stamp p) (some_is i.0 h.0 (sym i.1.front ∙ h.1.front)))) h.1.below_cut),
+)
+
+pub may_not : (r : Rules) (least : Advance) (b : Board r) (p : ℕ) → IsReadyAt r least b p None → MayRunNow r least b p → ⊥
+may_not r least b p i h = i h.0 (ready_where r least b p h.0 h.1)

@@ -1,5 +1,5 @@
 -- The earliest stamp of fronts, front by front.
-use Rattle.std.proofs.Common.{◌≡◌, ◌∙◌, refl, sym, ap, subst, arith, ℕ, ◌+◌, ◌<◌, ◌⊎◌, inl, inr, List, length, get_or, Option, None, Some}
+use Rattle.std.proofs.Common.{◌≡◌, ◌∙◌, refl, sym, ap, subst, arith, ℕ, zero, suc, ◌+◌, ◌<◌, ◌⊎◌, inl, inr, List, length, get_or, Option, None, Some}
 use Rattle.std.proofs.lemmas.Bool.{cases_lt}
 use Rattle.ooo_time.specs.declared.stamp.Stamp.{Stamp}
 use Rattle.ooo_time.specs.Stamps.{IsBefore}
@@ -10,7 +10,7 @@ use Rattle.ooo_fronts.specs.declared.front.Front.{Front}
 use Rattle.ooo_fronts.specs.Cuts.{IsLeastStamp}
 use Rattle.ooo_fronts.specs.Fronts.{AreFrontsOf, IsLeastOf, front_is, maybe_front}
 use Rattle.ooo_fronts.proofs.Counted.{at_front}
-use Rattle.ooo_fronts.proofs.Places.{before_by}
+use Rattle.ooo_fronts.proofs.Places.{before_by, compare, irreflexive, transitive}
 use Rattle.ooo_fronts.proofs.Ruling.{kept_is}
 
 -- the earliest stamp of the first i fronts
@@ -78,6 +78,34 @@ earliest_all fronts i None e h = λ p. at p (get_or fronts p None) refl
     at p None is = is
     at p (Some f) is = h p (let lt = at_front fronts p f is in omega arith)
 earliest_all fronts i (Some s) e h = (h.0, λ p f is. h.1 p f (let lt = at_front fronts p f is in omega arith) is)
+
+-- there is one of any fronts, or none has a stamp
+earlier_of : (one : Stamp) (other : Option Stamp) → (s : Stamp) × IsEarlier one other s
+earlier_of one None = (one, record { one_of = inl refl; first = irreflexive one; second = λ u e. absurd cc })
+earlier_of one (Some t) = elim (compare one t) [
+  | inl before ↦ (one, record { one_of = inl refl; first = irreflexive one; second = λ u e h. irreflexive one (transitive one t one before (let same : u ≡ t = cc in subst (λ x. IsBefore x one) same h)) })
+  | inr other ↦ (
+    t,
+    record {
+      one_of = inr refl;
+      first = λ h. elim other [ inl same ↦ irreflexive t (subst (λ x. IsBefore x t) same h) | inr before ↦ irreflexive t (transitive t one t before h) ];
+      second = λ u e h. irreflexive t (let same : u ≡ t = cc in subst (λ x. IsBefore x t) same h);
+    },
+  )
+]
+
+earliest_below : (fronts : List (Option Front)) (i : ℕ) → (r : Option Stamp) × EarliestBelow fronts i r
+earliest_below fronts zero = (None, earliest_first fronts)
+earliest_below fronts (suc i) = more (earliest_below fronts i) (get_or fronts i None) refl
+  where
+    more : ((r : Option Stamp) × EarliestBelow fronts i r) → (o : Option Front) → get_or fronts i None ≡ o → (r : Option Stamp) × EarliestBelow fronts (suc i) r
+    more h None e = (h.0, subst (λ n. EarliestBelow fronts n h.0) (omega arith) (earliest_none fronts i h.0 e h.1))
+    more h (Some f) e =
+        let x = earlier_of f.stamp h.0 in
+        (Some x.0, subst (λ n. EarliestBelow fronts n (Some x.0)) (omega arith) (earliest_some fronts i h.0 f x.0 e h.1 x.1))
+
+pub earliest : (fronts : List (Option Front)) → (r : Option Stamp) × IsLeastOf fronts r
+earliest fronts = let x = earliest_below fronts (length fronts) in (x.0, earliest_all fronts (length fronts) x.0 refl x.1)
 
 -- the same of the fronts of a board
 pub least_on_board : (r : Rules) (b : Board r) (fronts : List (Option Front)) (least : Option Stamp) → AreFrontsOf r b fronts → IsLeastOf fronts least → IsLeastStamp r b least

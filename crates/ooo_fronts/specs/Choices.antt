@@ -13,7 +13,7 @@ use Rattle.ooo_fronts.specs.declared.choice.Choice.{Choice}
 use Rattle.ooo_fronts.specs.declared.choice.State.{State}
 use Rattle.ooo_fronts.specs.declared.choice.State.TheVariants.{Waiting}
 use Rattle.ooo_fronts.specs.declared.front.Front as fronts
-use Rattle.ooo_fronts.specs.Cuts.{IsCutOf, IsLeastStamp}
+use Rattle.ooo_fronts.specs.Cuts.{IsCutOf}
 use Rattle.ooo_fronts.specs.Fronts.{AreFrontsOf, kept_front}
 
 -- ---- what is chosen from
@@ -35,7 +35,14 @@ pub record IsChoiceOf (r : Rules) (least : Advance) (b : Board r) (choice : Choi
   pub fronts : AreFrontsOf r b choice.fronts.now
   pub held : CountHolds r least choice.fronts.now choice.held.now
   pub cut : IsCutOf r b.log choice.cut.now
-  pub first : IsLeastStamp r b choice.first
+
+-- the front of process p, if it has one, is below the limit of deltas
+abbrev pub IsBelowLimit : Choice → (p : ℕ) → Type 0
+IsBelowLimit choice p = (f : fronts.Front) → slice_index_or choice.fronts.now p None ≡ Some f → f.stamp.delta < choice.cut.now.deltas
+
+-- each front is
+abbrev pub AllBelowLimit : Choice → Type 0
+AllBelowLimit choice = (p : ℕ) → IsBelowLimit choice p
 
 -- ---- who may run
 
@@ -43,10 +50,17 @@ pub record IsChoiceOf (r : Rules) (least : Advance) (b : Board r) (choice : Choi
 abbrev pub MayRunNow : (r : Rules) → Advance → Board r → (p : ℕ) → Type 0
 MayRunNow r least b p = (f : Front Stamp) × MayRun r least b p f
 
--- it may at this place, if there is one; else it may not
+-- it may but for the cut: at its front, if that is below the cut
+pub record IsReady (r : Rules) (least : Advance) (b : Board r) (p : ℕ) (f : Front Stamp) : Type 0 where
+  pub idle : last p b.out ≡ None
+  pub front : IsFront r b p f
+  pub below_limit : f.stamp.delta < r.limits.deltas
+  pub free : (q : ℕ) (g : Front Stamp) → q ≢ p → IsFront r b q g → HoldsUp r least g p f → ⊥
+
+-- it may so at this place, if there is one; else it may not
 abbrev pub IsReadyAt : (r : Rules) → Advance → Board r → (p : ℕ) → Option Place → Type 0
-IsReadyAt r least b p None = (f : Front Stamp) → MayRun r least b p f → ⊥
-IsReadyAt r least b p (Some at) = (f : Front Stamp) × MayRun r least b p f × (at ≡ place_of f.stamp p)
+IsReadyAt r least b p None = (f : Front Stamp) → IsReady r least b p f → ⊥
+IsReadyAt r least b p (Some at) = (f : Front Stamp) × IsReady r least b p f × (at ≡ place_of f.stamp p)
 
 -- a process that may run before each other one that may; none where none may
 abbrev pub IsPick : (r : Rules) → Advance → Board r → Option ℕ → Type 0
@@ -89,5 +103,5 @@ pub record PicksLeastOf (r : Rules) (least : Advance) (b : Board r) (pick : Opti
 -- where no process runs, and some front is below the cut, that of least place is picked
 abbrev pub PicksLeast : (r : Rules) → Advance → Replay r → Type 0
 PicksLeast r least s =
-    s.board.out ≡ [] → UpToLimit r s.board → (first : Option Stamp) → IsLeastStamp r s.board first → (p : ℕ) → HasFrontBelow r s.board p →
+    s.board.out ≡ [] → UpToLimit r s.board → (kept : List (Option fronts.Front)) → AreFrontsOf r s.board kept → (p : ℕ) → HasFrontBelow r s.board p →
     (pick : Option ℕ) → IsPick r least s.board pick → PicksLeastOf r least s.board pick

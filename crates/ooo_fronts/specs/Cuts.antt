@@ -1,7 +1,8 @@
 -- The cut, by the endings that were committed, and the least front.
-use Rattle.std.specs.Prelude.{◌≡◌, ℕ, Bool, true, false, List, Option, None, Some}
+use Rattle.std.specs.Prelude.{◌≡◌, ◌≤◌, ℕ, Bool, true, false, List, Option, None, Some}
 use Rattle.std.specs.List.{list_any}
 use Rattle.ooo_time.specs.declared.stamp.Stamp.{Stamp}
+use Rattle.ooo_time.specs.declared.stamp.Place.{Place}
 use Rattle.ooo_time.specs.Stamps.{IsBefore, ComesBefore}
 use Rattle.ooo_meaning.specs.World.{broken_by, place_of}
 use Rattle.ooo_schedules.specs.Model.{Act, Front, In, front_of}
@@ -48,6 +49,11 @@ pub record IsCutOf (r : Rules) (ys : List (Act Stamp Reads)) (cut : Cut) : Type 
   pub deltas : cut.deltas ≡ r.limits.deltas
   pub broken : IsFirstBreak r ys cut.broken
   pub stopped : IsFirstStop r ys cut.stopped
+
+-- a place is in time, and none of these activations cuts it off
+pub record IsUncut (r : Rules) (ys : List (Act Stamp Reads)) (at : Place) : Type 0 where
+  pub in_time : at.stamp.time.0 ≤ r.limits.stop.0
+  pub uncut : (y : Act Stamp Reads) → In y ys → (model r).Cuts y at.stamp at.process → ⊥
 
 -- ---- the least front
 

@@ -1,12 +1,14 @@
-ghost use Rattle.std.specs.Prelude.{◌≡◌, ◌≤◌, ◌<◌, ◌↔◌, IsTrue, IfSome, [], length, slice_index_or};
+ghost use Rattle.std.specs.Prelude.{◌≡◌, ◌≤◌, ◌<◌, ◌↔◌, false, IsTrue, IfSome, [], length, slice_index_or};
 ghost use Rattle.ooo_dispatch.specs.Boards.{Board, IsOverBoard};
-ghost use Rattle.ooo_dispatch.specs.Least.{Advance};
+ghost use Rattle.ooo_dispatch.specs.Least.{Advance, IsBelowCut};
 ghost use Rattle.ooo_dispatch.specs.Rules.{Rules};
-ghost use Rattle.ooo_fronts.specs.Choices.{HasFrontBelow, IsChoiceOf, IsEarlierOf, IsPick, IsReadyAt};
-ghost use Rattle.ooo_fronts.specs.Choices.{MayRunNow, NoFrontBelow};
+ghost use Rattle.ooo_fronts.specs.Choices.{AllBelowLimit, HasFrontBelow, IsBelowLimit, IsChoiceOf};
+ghost use Rattle.ooo_fronts.specs.Choices.{IsEarlierOf, IsPick, IsReadyAt, MayRunNow, NoFrontBelow};
+ghost use Rattle.ooo_fronts.specs.Cuts.{IsLeastStamp};
 
 use crate::cut::Cut;
 use crate::front::Front;
+use crate::fronts::least_of;
 use ooo_time::{Place, Stamp};
 
 /// What a process does.
@@ -22,6 +24,7 @@ pub enum State {
 
 impl State {
     // Whether the process waits.
+    #[inline(always)]
     fn is_waiting(self) -> bool
         ensures { IsTrue result ↔ (self ≡ State.Waiting) }
     {
@@ -39,8 +42,6 @@ pub struct Choice<'a> {
     pub fronts: &'a [Option<Front>],
     pub held: &'a [u32],
     pub cut: &'a Cut,
-    /// The earliest stamp of all fronts.
-    pub first: Option<Stamp>,
 }
 
 impl Choice<'_> {
@@ -52,10 +53,14 @@ impl Choice<'_> {
         ensures { (r : Rules) (least : Advance) (b : Board r) → IsChoiceOf r least b self.now →
             IsTrue result ↔ MayRunNow r least b p }
     {
-        self.ready_at(p).is_some()
+        let Some(place) = self.ready_at(p) else {
+            return false;
+        };
+        self.is_below(place, true)
     }
 
-    /// Of the processes that may run, the one of the least place; none where none may.
+    /// Of the processes that may run, the one of the least place; none where none may. What comes before a place that is
+    /// below the cut is below it, too, so the cut is asked only of the first place at which a process may run but for that.
     pub fn pick(&self) -> Option<u32>
         requires few { length self.now.fronts.now ≤ u32.MAX }
         requires states { length self.now.states.now ≡ length self.now.fronts.now }
@@ -65,11 +70,17 @@ impl Choice<'_> {
             IsPick r least b result }
     {
         let mut best = None;
+        let mut limited = false;
         for p in 0..self.fronts.len() as u32 {
             best = earlier(best, self.ready_at(p));
+            limited = limited || self.is_at_limit(p);
         }
         let place: Place = best?;
-        Some(place.process)
+        if self.is_below(place, limited) {
+            Some(place.process)
+        } else {
+            None
+        }
     }
 
     /// Whether no front is below the cut. So the board is over where also no job is out.
@@ -80,15 +91,18 @@ impl Choice<'_> {
         ensures over { (r : Rules) (least : Advance) (b : Board r) → IsChoiceOf r least b self.now →
             b.out ≡ [] → IsTrue result ↔ IsOverBoard r b }
     {
+        let first = self.least();
         for p in 0..self.fronts.len() as u32 {
-            if self.is_below(p) {
+            if self.has_front_below(first, p) {
                 return false;
             }
         }
         true
     }
 
-    // The place at which a process may run, if it may.
+    // The place of a process that may run, if that is below the cut: it waits, its front is below the limit of deltas, and
+    // nothing holds it up.
+    #[inline(always)]
     fn ready_at(&self, p: u32) -> Option<Place>
         requires process { p < length self.now.fronts.now }
         requires states { length self.now.states.now ≡ length self.now.fronts.now }
@@ -98,22 +112,21 @@ impl Choice<'_> {
             IsChoiceOf r least b self.now → IsReadyAt r least b p result }
     {
         let front = self.fronts[p as usize]?;
-        let place = Place {
-            stamp: front.stamp,
-            process: p,
-        };
-        if self.states[p as usize].is_waiting()
+        if self.cut.is_below_limit(front.stamp)
+            && self.states[p as usize].is_waiting()
             && self.is_free(p)
-            && self.cut.is_below_limit(front.stamp)
-            && self.cut.is_below(self.first, place)
         {
-            Some(place)
+            Some(Place {
+                stamp: front.stamp,
+                process: p,
+            })
         } else {
             None
         }
     }
 
     // Whether nothing holds a process up.
+    #[inline(always)]
     fn is_free(&self, p: u32) -> bool
         requires { p < length self.now.held.now }
         ensures { IsTrue result ↔ (slice_index_or self.now.held.now p 0 ≡ 0) }
@@ -121,15 +134,41 @@ impl Choice<'_> {
         self.held[p as usize] == 0
     }
 
-    // Whether a process has a front below the cut.
-    fn is_below(&self, p: u32) -> bool
+    // Whether a process has a front that isn't below the limit of deltas.
+    #[inline(always)]
+    fn is_at_limit(&self, p: u32) -> bool
+        requires { p < length self.now.fronts.now }
+        ensures { result ≡ false → IsBelowLimit self.now p }
+    {
+        let Some(front) = self.fronts[p as usize] else {
+            return false;
+        };
+        !self.cut.is_below_limit(front.stamp)
+    }
+
+    // Whether a place is below the cut. The limit of deltas cuts off nothing unless a front is at it, so the least front is
+    // looked for only where it is said that one may be.
+    fn is_below(&self, at: Place, limited: bool) -> bool
+        requires { limited ≡ false → AllBelowLimit self.now }
+        ensures { (r : Rules) (least : Advance) (b : Board r) → IsChoiceOf r least b self.now →
+            IsTrue result ↔ IsBelowCut r b at.stamp at.process }
+    {
+        if limited {
+            self.cut.is_below(self.least(), at)
+        } else {
+            self.cut.is_uncut(at)
+        }
+    }
+
+    // Whether a process has a front below the cut, where this is the earliest stamp of all fronts.
+    fn has_front_below(&self, first: Option<Stamp>, p: u32) -> bool
         requires { p < length self.now.fronts.now }
         ensures { (r : Rules) (least : Advance) (b : Board r) → IsChoiceOf r least b self.now →
-            IsTrue result ↔ HasFrontBelow r b p }
+            IsLeastStamp r b first → IsTrue result ↔ HasFrontBelow r b p }
     {
         match self.fronts[p as usize] {
             Some(front) => self.cut.is_below(
-                self.first,
+                first,
                 Place {
                     stamp: front.stamp,
                     process: p,
@@ -138,9 +177,18 @@ impl Choice<'_> {
             None => false,
         }
     }
+
+    // The earliest stamp of all fronts.
+    fn least(&self) -> Option<Stamp>
+        ensures { (r : Rules) (least : Advance) (b : Board r) → IsChoiceOf r least b self.now →
+            IsLeastStamp r b result }
+    {
+        least_of(self.fronts)
+    }
 }
 
 // The earlier of two places, of those that there are.
+#[inline(always)]
 fn earlier(best: Option<Place>, other: Option<Place>) -> Option<Place>
     ensures { IsEarlierOf best other result }
 {

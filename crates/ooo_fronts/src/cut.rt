@@ -8,7 +8,7 @@ ghost use Rattle.ooo_dispatch.specs.Boards.{Board};
 ghost use Rattle.ooo_dispatch.specs.Least.{IsBelowCut};
 ghost use Rattle.ooo_dispatch.specs.Rules.{Rules, outcome_of};
 ghost use Rattle.ooo_fronts.specs.Cuts.{IsCutOf, IsFirstBreak, IsFirstStop, IsLeastStamp};
-ghost use Rattle.ooo_fronts.specs.Cuts.{calls_stop};
+ghost use Rattle.ooo_fronts.specs.Cuts.{IsUncut, calls_stop};
 
 use ooo_code::{JobEnd, Limits};
 use ooo_history::End;
@@ -64,13 +64,20 @@ impl Cut {
         ensures { (r : Rules) (b : Board r) → IsCutOf r b.log self.now → IsLeastStamp r b first →
             IsTrue result ↔ IsBelowCut r b at.stamp at.process }
     {
-        self.is_in_time(at.stamp)
-            && self.is_before_break(at)
-            && self.is_before_stop(at.stamp)
-            && self.is_before_limit(first, at.stamp)
+        self.is_uncut(at) && self.is_before_limit(first, at.stamp)
+    }
+
+    /// Whether a place is in time, and no committed activation cuts it off: all of what is asked of a place below the cut,
+    /// where the least front isn't at the limit of deltas.
+    pub fn is_uncut(&self, at: Place) -> bool
+        ensures { (r : Rules) (log : List (Act StampSpec ReadsSpec)) → IsCutOf r log self.now →
+            IsTrue result ↔ IsUncut r log at }
+    {
+        self.is_in_time(at.stamp) && self.is_before_break(at) && self.is_before_stop(at.stamp)
     }
 
     /// Whether there may be a delta cycle of this number.
+    #[inline(always)]
     pub fn is_below_limit(&self, stamp: Stamp) -> bool
         ensures { IsTrue result ↔ (stamp.delta < self.now.deltas) }
     {

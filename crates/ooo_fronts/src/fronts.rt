@@ -142,7 +142,7 @@ impl Fronts {
 }
 
 // The earliest stamp of these fronts.
-fn least_of(fronts: &[Option<Front>]) -> Option<Stamp>
+pub(crate) fn least_of(fronts: &[Option<Front>]) -> Option<Stamp>
     ensures { IsLeastOf fronts.now result }
 {
     let mut least: Option<Stamp> = None;

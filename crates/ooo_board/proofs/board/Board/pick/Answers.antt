@@ -20,5 +20,5 @@ returns-clause-no_dead_end c = λ sound still p below.
     let has = subst (λ x. IsKept x c.self.inside.core) c.self.view_is c.self.invariant.has in
     let laws = c.laws.ensures b.design b.limits b.tables has.stands.ready in
     let of = c.choice.ensures.of in
-    laws.least b.schedule has.stands.lawful still (λ q g is. (laws.in_reach b.schedule has.stands.lawful q g is).delta) c.choice.result.first of.first p below c.pick.result
+    laws.least b.schedule has.stands.lawful still (λ q g is. (laws.in_reach b.schedule has.stands.lawful q g is).delta) c.choice.result.fronts.now of.fronts p below c.pick.result
     (c.pick.ensures.pick (rules b) b.tables.advance (state b).board of)

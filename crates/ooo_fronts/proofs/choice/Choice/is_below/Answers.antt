@@ -1,18 +1,13 @@
--- The place of the front is asked.
-use Rattle.std.proofs.Common.{subst}
-use Rattle.ooo_dispatch.specs.Least.{IsBelowCut}
-use Rattle.ooo_fronts.specs.Fronts.{front_is}
-use Rattle.ooo_fronts.proofs.Choosing.{has_front, no_front, same_front}
+-- The whole cut is asked, or all fronts are below the limit of deltas.
+use Rattle.ooo_fronts.proofs.Below.{below_uncut, uncut_below}
+use Rattle.ooo_fronts.proofs.Choosing.{all_below}
 use Rattle.ooo_fronts.proofs.choice.Choice.is_below.Goals as goal
 
-pub returns-in-Some : goal.returns-in-Some
-returns-in-Some c = λ r least b k.
-    let f = c.in-Some.front in (
-      λ t. (front_is f, has_front r b c.args.self.now.fronts.now k.fronts c.args.p f c.in-Some.is, (c.is_below.ensures r b k.cut k.first).0 t),
-      λ h. (c.is_below.ensures r b k.cut k.first).1
-          (subst (λ x. IsBelowCut r b x.stamp c.args.p) (same_front r b c.args.self.now.fronts.now k.fronts c.args.p f h.0 c.in-Some.is h.1) h.2),
-    )
+pub returns-then-limited : goal.returns-then-limited
+returns-then-limited c = λ r least b k. c.is_below.ensures r b k.cut (c.least.ensures r least b k)
 
-pub returns-in-None : goal.returns-in-None
-returns-in-None c = λ r least b k.
-    (λ t. absurd cc, λ h. absurd (no_front r b c.args.self.now.fronts.now k.fronts c.args.p h.0 c.in-None.is h.1))
+pub returns-else-limited : goal.returns-else-limited
+returns-else-limited c = λ r least b k.
+    let u = c.is_uncut.ensures r b.log k.cut in
+    let all = all_below r least b c.args.self.now k (c.requires c.if-limited.false) in
+    (λ t. below_uncut r b c.args.at all (u.0 t), λ h. u.1 (uncut_below r b c.args.at h))
