@@ -10,7 +10,7 @@ use Rattle.ooo_time.specs.declared.stamp.Stamp.{Stamp}
 use Rattle.ooo_tables.specs.declared.tables.Tables.{Tables}
 use Rattle.ooo_fronts.specs.declared.front.Front.{Front}
 use Rattle.ooo_fronts.specs.declared.front.Hold.{Hold}
-use Rattle.ooo_fronts.specs.Fronts.{AreAligned, AreFit, IsFit, Kept}
+use Rattle.ooo_fronts.specs.Fronts.{AreAligned, AreFit, IsFit, IsFitOfItself, Kept}
 use Rattle.ooo_fronts.specs.Holds.{hold_at, holds_of, maybe_holds_of, holds_from, total, held_at, held, AreCounts, IsHold, IsFirstHold}
 use Rattle.ooo_fronts.proofs.Totals.{total_changed, total_at_most, total_more, none_added, added_none, none_counted, counted_none}
 
@@ -215,13 +215,17 @@ first_or_none t fronts p (Some x) h = (λ e. absurd cc, λ e. absurd (hold_is_co
 
 -- ---- fit fronts
 
-pub fit_at : (n : ℕ) (fronts : List (Option Front)) → AreFit n fronts → (p : ℕ) (f : Front) → get_or fronts p None ≡ Some f → IsFit n f
-fit_at n fronts fit p f e = fit p f (slice_get-get_or fronts p None (at_front fronts p f e) ∙ ap Some e)
+pub fit_at : (t : Tables) (fronts : List (Option Front)) → AreFit t fronts → (p : ℕ) (f : Front) → get_or fronts p None ≡ Some f → IsFit t p f
+fit_at t fronts fit p f e = fit p f (slice_get-get_or fronts p None (at_front fronts p f e) ∙ ap Some e)
 
-pub fit_set : (n : ℕ) (fronts : List (Option Front)) (p : ℕ) (front : Option Front) → p < length fronts → AreFit n fronts → ((f : Front) → front ≡ Some f → IsFit n f) → AreFit n (set fronts p front)
-fit_set n fronts p front lt fit new q f e = elim (eqb_tells q p) [
-  | inl w ↦ new f (sym (get_or-set_same fronts p front None lt) ∙ ap (λ m. get_or (set fronts p front) m None) (sym w.1) ∙ get_or_from_slice_get (set fronts p front) q (Some f) None e)
-  | inr w ↦ fit_at n fronts fit q f (sym (get_or-set_other fronts p q front None w.1) ∙ get_or_from_slice_get (set fronts p front) q (Some f) None e)
+-- what is fit for a process is so for that of its segment
+pub fit_itself : (t : Tables) (p : ℕ) (f : Front) → IsFit t p f → IsFitOfItself t f
+fit_itself t p f fit = subst (λ q. IsFit t q f) (sym fit.process) fit
+
+pub fit_set : (t : Tables) (fronts : List (Option Front)) (p : ℕ) (front : Option Front) → p < length fronts → AreFit t fronts → ((f : Front) → front ≡ Some f → IsFit t p f) → AreFit t (set fronts p front)
+fit_set t fronts p front lt fit new q f e = elim (eqb_tells q p) [
+  | inl w ↦ subst (λ k. IsFit t k f) (sym w.1) (new f (sym (get_or-set_same fronts p front None lt) ∙ ap (λ m. get_or (set fronts p front) m None) (sym w.1) ∙ get_or_from_slice_get (set fronts p front) q (Some f) None e))
+  | inr w ↦ fit_at t fronts fit q f (sym (get_or-set_other fronts p q front None w.1) ∙ get_or_from_slice_get (set fronts p front) q (Some f) None e)
 ]
 
 -- a front that is set and set back
@@ -251,5 +255,5 @@ module _ (kept : Kept) (fronts : List (Option Front)) (counts : List ℕ) (view 
       let back : set slice p old ≡ fronts = ap (λ xs. set xs p old) set_is ∙ ap (set (set fronts p front) p) was ∙ set_back fronts p front in
       subst (AreCounts t (set slice p old)) (same_counts ∙ sym lent_is) (subst (λ xs. AreCounts t xs kept.counts) (same_fronts ∙ sym back) h)
 
-  pub fit_after : (n p : ℕ) (front : Option Front) → p < length kept.fronts → AreFit n kept.fronts → ((f : Front) → front ≡ Some f → IsFit n f) → AreFit n (set fronts p front)
-  fit_after n p front lt fit new = subst (λ xs. AreFit n (set xs p front)) same_fronts (fit_set n kept.fronts p front lt fit new)
+  pub fit_after : (t : Tables) (p : ℕ) (front : Option Front) → p < length kept.fronts → AreFit t kept.fronts → ((f : Front) → front ≡ Some f → IsFit t p f) → AreFit t (set fronts p front)
+  fit_after t p front lt fit new = subst (λ xs. AreFit t (set xs p front)) same_fronts (fit_set t kept.fronts p front lt fit new)

@@ -18,8 +18,8 @@ use Rattle.ooo_conflicts.specs.Clashing.{ClashesStrictly}
 use Rattle.ooo_advance.specs.Rows.{entry_at, IsAddable}
 use Rattle.ooo_tables.specs.declared.tables.Tables.{Tables}
 use Rattle.ooo_fronts.specs.declared.front.Front.{Front}
-use Rattle.ooo_fronts.specs.Fronts.{AreAligned}
-use Rattle.ooo_fronts.specs.Holds.{process_in, clashes_at, if_clashing, hold_at}
+use Rattle.ooo_fronts.specs.Fronts.{AreAligned, process_in}
+use Rattle.ooo_fronts.specs.Holds.{clashes_at, if_clashing, hold_at}
 use Rattle.ooo_fronts.proofs.Reached.{AreAllOf}
 
 -- what clashes at all clashes strictly

@@ -22,8 +22,8 @@ use Rattle.ooo_dispatch.specs.Rules.{process_of, clash}
 use Rattle.ooo_fronts.specs.declared.front.Front.{Front}
 use Rattle.ooo_fronts.specs.declared.front.Hold.{Hold}
 use Rattle.ooo_fronts.specs.Choices.{CountHolds}
-use Rattle.ooo_fronts.specs.Fronts.{AreAligned, front_is, maybe_front, kept_front}
-use Rattle.ooo_fronts.specs.Holds.{process_in, clashes_at, AreCounts, IsHold, IsHoldByRule}
+use Rattle.ooo_fronts.specs.Fronts.{AreAligned, front_is, maybe_front, kept_front, process_in}
+use Rattle.ooo_fronts.specs.Holds.{clashes_at, AreCounts, IsHold, IsHoldByRule}
 use Rattle.ooo_fronts.proofs.Holding.{found_by, by_found}
 use Rattle.ooo_fronts.proofs.Counted.{hold_is_counted, none_is_counted}
 use Rattle.ooo_fronts.proofs.Orders.{before_yes, is_yes, never_before, same_yes, yes_same}

@@ -30,15 +30,24 @@ pub record AreFrontsOf (r : Rules) (b : Board r) (fronts : List (Option Front)) 
   pub count : length fronts ≡ length r.design.processes
   pub each : (p : ℕ) → board.front_of (model r) b p ≡ kept_front fronts p
 
--- a front of a segment that there is, at a stamp to which delays can be added
-pub record IsFit (segments : ℕ) (f : Front) : Type 0 where
-  pub segment : f.segment < segments
+-- the process of segment b, which there is
+abbrev pub process_in : Tables → (b : ℕ) → ℕ
+process_in t b = elim (slice_get t.graph.segments b) [ None ↦ 0 | Some s ↦ s.process ]
+
+-- a front of a segment of process p that there is, at a stamp to which delays can be added
+pub record IsFit (t : Tables) (p : ℕ) (f : Front) : Type 0 where
+  pub segment : f.segment < length t.graph.segments
+  pub process : process_in t f.segment ≡ p
   pub time : f.stamp.time.0 ≤ greatest_wait
   pub delta : f.stamp.delta ≤ greatest_delta
 
--- each front is one
-abbrev pub AreFit : (segments : ℕ) → List (Option Front) → Type 0
-AreFit segments fronts = (p : ℕ) (f : Front) → slice_get fronts p ≡ Some (Some f) → IsFit segments f
+-- the front of each process that has one is such a front of that process
+abbrev pub AreFit : Tables → List (Option Front) → Type 0
+AreFit t fronts = (p : ℕ) (f : Front) → slice_get fronts p ≡ Some (Some f) → IsFit t p f
+
+-- the front is one of the process of its segment
+abbrev pub IsFitOfItself : Tables → Front → Type 0
+IsFitOfItself t f = IsFit t (process_in t f.segment) f
 
 -- clashes and delays are those of so many segments, and each delay can be added to a stamp; so it is in the tables of a design
 pub record AreAligned (t : Tables) : Type 0 where

@@ -13,13 +13,9 @@ use Rattle.ooo_tables.specs.declared.tables.Tables.{Tables}
 use Rattle.ooo_dispatch.specs.Least.{HoldsUp, rules_of}
 use Rattle.ooo_fronts.specs.declared.front.Front.{Front}
 use Rattle.ooo_fronts.specs.declared.front.Hold.{Hold}
-use Rattle.ooo_fronts.specs.Fronts.{front_is}
+use Rattle.ooo_fronts.specs.Fronts.{front_is, process_in}
 
 -- ---- one front and one segment
-
--- the process of segment b, which there is
-abbrev pub process_in : Tables → (b : ℕ) → ℕ
-process_in t b = elim (slice_get t.graph.segments b) [ None ↦ 0 | Some s ↦ s.process ]
 
 -- segment b at a stamp clashes with the front f of process p: strictly where it comes earlier, and else at the same stamp by a lower
 -- process

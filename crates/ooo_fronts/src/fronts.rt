@@ -49,7 +49,7 @@ impl Fronts {
     ) -> Result<Fronts, AllocError>
         requires aligned { AreAligned tables.now }
         requires few { length fronts.items ≤ greatest_segments }
-        requires fit { AreFit (length tables.now.graph.segments) fronts.items }
+        requires fit { AreFit tables.now fronts.items }
         ensures fronts { IfOk result (λ f. f.fronts ≡ fronts.items) }
         ensures counts { IfOk result (λ f. AreCounts tables.now f.fronts f.counts) }
     {
@@ -84,13 +84,12 @@ impl Fronts {
     pub fn set(&mut self, tables: &Tables, p: u32, front: Option<Front>)
         requires aligned { AreAligned tables.now }
         requires within { p < length self.old.fronts }
-        requires fit { AreFit (length tables.now.graph.segments) self.old.fronts }
-        requires new { (f : FrontSpec) → front ≡ Some f →
-            IsFit (length tables.now.graph.segments) f }
+        requires fit { AreFit tables.now self.old.fronts }
+        requires new { (f : FrontSpec) → front ≡ Some f → IsFit tables.now p f }
         requires counts { AreCounts tables.now self.old.fronts self.old.counts }
         ensures fronts { self.new.fronts ≡ slice_set self.old.fronts p front }
         ensures counts { AreCounts tables.now self.new.fronts self.new.counts }
-        ensures fit { AreFit (length tables.now.graph.segments) self.new.fronts }
+        ensures fit { AreFit tables.now self.new.fronts }
     {
         let old = self.fronts[p as usize];
         self.fronts[p as usize] = front;
@@ -123,7 +122,7 @@ impl Fronts {
     pub fn first_hold(&self, tables: &Tables, p: u32) -> Option<Hold>
         requires aligned { AreAligned tables.now }
         requires within { p < length self.now.fronts }
-        requires fit { AreFit (length tables.now.graph.segments) self.now.fronts }
+        requires fit { AreFit tables.now self.now.fronts }
         ensures first { IsFirstHold tables.now self.now.fronts p result }
         ensures none { (result ≡ None) ↔ (held tables.now self.now.fronts p ≡ 0) }
     {
@@ -171,7 +170,7 @@ fn first_hold(tables: &Tables, fronts: &[Option<Front>], p: u32, f: Front) -> Op
     requires aligned { AreAligned tables.now }
     requires few { length fronts.now ≤ greatest_segments }
     requires own { slice_index_or fronts.now p None ≡ Some f }
-    requires fit { AreFit (length tables.now.graph.segments) fronts.now }
+    requires fit { AreFit tables.now fronts.now }
     ensures { IsFirstHold tables.now fronts.now p result }
 {
     for q in 0..fronts.len() {
@@ -187,7 +186,7 @@ fn first_from(tables: &Tables, fronts: &[Option<Front>], q: u32, p: u32, f: Fron
     requires aligned { AreAligned tables.now }
     requires within { q < length fronts.now }
     requires own { slice_index_or fronts.now p None ≡ Some f }
-    requires fit { AreFit (length tables.now.graph.segments) fronts.now }
+    requires fit { AreFit tables.now fronts.now }
     ensures { IsFirstFrom tables.now fronts.now p q result }
 {
     if q == p {
@@ -209,7 +208,7 @@ fn counts_of(
 ) -> Result<Vec<u32>, AllocError>
     requires aligned { AreAligned tables.now }
     requires few { length fronts.now ≤ greatest_segments }
-    requires fit { AreFit (length tables.now.graph.segments) fronts.now }
+    requires fit { AreFit tables.now fronts.now }
     ensures { IfOk result (λ counts. AreCounts tables.now fronts.now counts.items) }
 {
     let mut counts = Vec::with_capacity(alloc, fronts.len())?;
@@ -224,7 +223,7 @@ fn count_of(tables: &Tables, fronts: &[Option<Front>], p: u32) -> u32
     requires aligned { AreAligned tables.now }
     requires few { length fronts.now ≤ greatest_segments }
     requires within { p < length fronts.now }
-    requires fit { AreFit (length tables.now.graph.segments) fronts.now }
+    requires fit { AreFit tables.now fronts.now }
     ensures { result ≡ held tables.now fronts.now p }
 {
     let Some(f) = fronts[p as usize] else {
@@ -250,8 +249,8 @@ fn mend(
     requires aligned { AreAligned tables.now }
     requires few { length fronts.now ≤ greatest_segments }
     requires within { p < length fronts.now }
-    requires fit { AreFit (length tables.now.graph.segments) fronts.now }
-    requires old { (f : FrontSpec) → before ≡ Some f → IsFit (length tables.now.graph.segments) f }
+    requires fit { AreFit tables.now fronts.now }
+    requires old { (f : FrontSpec) → before ≡ Some f → IsFit tables.now p f }
     requires counts { AreCounts tables.now (slice_set fronts.now p before) counts.old }
     ensures { AreCounts tables.now fronts.now counts.new }
 {
@@ -273,8 +272,8 @@ fn mended(
     requires few { length fronts.now ≤ greatest_segments }
     requires within { p < length fronts.now }
     requires one { q < length fronts.now }
-    requires fit { AreFit (length tables.now.graph.segments) fronts.now }
-    requires old { (f : FrontSpec) → before ≡ Some f → IsFit (length tables.now.graph.segments) f }
+    requires fit { AreFit tables.now fronts.now }
+    requires old { (f : FrontSpec) → before ≡ Some f → IsFit tables.now p f }
     requires count { count ≡ held tables.now (slice_set fronts.now p before) q }
     ensures { result ≡ held tables.now fronts.now q }
 {

@@ -1,7 +1,7 @@
 ghost use Rattle.std.specs.Prelude.{◌≡◌, ◌<◌, ◌≤◌, length};
 ghost use Rattle.ooo_fronts.specs.declared.front.Front.{Front as FrontSpec};
-ghost use Rattle.ooo_fronts.specs.Fronts.{AreAligned, IsFit};
-ghost use Rattle.ooo_fronts.specs.Holds.{clashes_at, hold_at, holds_of, maybe_holds_of, process_in, IsFirstBy};
+ghost use Rattle.ooo_fronts.specs.Fronts.{AreAligned, IsFitOfItself, process_in};
+ghost use Rattle.ooo_fronts.specs.Holds.{clashes_at, hold_at, holds_of, maybe_holds_of, IsFirstBy};
 
 use crate::front::Front;
 use ooo_tables::Tables;
@@ -36,7 +36,7 @@ fn clashes_at(tables: &Tables, b: u32, at: Stamp, p: u32, f: Front) -> bool
 fn hold_at(tables: &Tables, g: Front, p: u32, f: Front, b: u32) -> Option<Stamp>
     requires aligned { AreAligned tables.now }
     requires segment { b < length tables.now.graph.segments }
-    requires fit { IsFit (length tables.now.graph.segments) g }
+    requires fit { IsFitOfItself tables.now g }
     requires front { f.segment < length tables.now.graph.segments }
     ensures { result ≡ hold_at tables.now g p f b }
 {
@@ -57,7 +57,7 @@ fn hold_at(tables: &Tables, g: Front, p: u32, f: Front, b: u32) -> Option<Stamp>
 // By how many segments the front g, if there is one, holds the front f of process p up.
 pub(crate) fn holds_of(tables: &Tables, g: Option<Front>, p: u32, f: Front) -> u32
     requires aligned { AreAligned tables.now }
-    requires fit { (h : FrontSpec) → g ≡ Some h → IsFit (length tables.now.graph.segments) h }
+    requires fit { (h : FrontSpec) → g ≡ Some h → IsFitOfItself tables.now h }
     requires front { f.segment < length tables.now.graph.segments }
     ensures exact { result ≡ maybe_holds_of tables.now g p f }
     ensures few { result ≤ length tables.now.graph.segments }
@@ -71,7 +71,7 @@ pub(crate) fn holds_of(tables: &Tables, g: Option<Front>, p: u32, f: Front) -> u
 // By how many segments the front g holds the front f of process p up. Only those that clash strictly with f's can.
 fn count_of(tables: &Tables, g: Front, p: u32, f: Front) -> u32
     requires aligned { AreAligned tables.now }
-    requires fit { IsFit (length tables.now.graph.segments) g }
+    requires fit { IsFitOfItself tables.now g }
     requires front { f.segment < length tables.now.graph.segments }
     ensures { result ≡ holds_of tables.now g p f }
 {
@@ -88,7 +88,7 @@ fn count_of(tables: &Tables, g: Front, p: u32, f: Front) -> u32
 // The first segment by which the front g holds the front f of process p up, with the stamp.
 pub(crate) fn first_of(tables: &Tables, g: Front, p: u32, f: Front) -> Option<(u32, Stamp)>
     requires aligned { AreAligned tables.now }
-    requires fit { IsFit (length tables.now.graph.segments) g }
+    requires fit { IsFitOfItself tables.now g }
     requires front { f.segment < length tables.now.graph.segments }
     ensures { IsFirstBy tables.now g p f result }
 {

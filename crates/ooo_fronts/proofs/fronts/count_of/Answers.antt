@@ -1,17 +1,17 @@
 -- Front by front.
 use Rattle.std.proofs.Common.{◌≡◌, ◌∙◌, sym, ap, length, arith}
 use Rattle.ooo_fronts.specs.Holds.{holds_from, total}
-use Rattle.ooo_fronts.proofs.Counted.{fit_at, held_none, held_some, few_so_far}
+use Rattle.ooo_fronts.proofs.Counted.{fit_at, fit_itself, held_none, held_some, few_so_far}
 use Rattle.ooo_fronts.proofs.fronts.count_of.Goals as goal
 
 pub returns-in_default : goal.returns-in_default
 returns-in_default c = sym (held_none c.args.tables.now c.args.fronts.now c.args.p c.in_default.is)
 
 pub holds_of-count-requires-clause-fit : goal.holds_of-count-requires-clause-fit
-holds_of-count-requires-clause-fit c = λ h e. fit_at (length c.args.tables.now.graph.segments) c.args.fronts.now c.requires.fit c.loop-q.q h e
+holds_of-count-requires-clause-fit c = λ h e. fit_itself c.args.tables.now c.loop-q.q h (fit_at c.args.tables.now c.args.fronts.now c.requires.fit c.loop-q.q h e)
 
 pub holds_of-count-requires-clause-front : goal.holds_of-count-requires-clause-front
-holds_of-count-requires-clause-front c = (fit_at (length c.args.tables.now.graph.segments) c.args.fronts.now c.requires.fit c.args.p c.in-Some.f c.in-Some.is).segment
+holds_of-count-requires-clause-front c = (fit_at c.args.tables.now c.args.fronts.now c.requires.fit c.args.p c.in-Some.f c.in-Some.is).segment
 
 pub overflow_add-count : goal.overflow_add-count
 overflow_add-count c =

@@ -1,7 +1,7 @@
 -- What the old front of another process took part in is less, and what the new one does is more.
 use Rattle.std.proofs.Common.{sym, set, arith}
 use Rattle.std.proofs.lemmas.List.{length-set}
-use Rattle.ooo_fronts.proofs.Counted.{held_none, few_held, count_changed}
+use Rattle.ooo_fronts.proofs.Counted.{fit_at, fit_itself, held_none, few_held, count_changed}
 use Rattle.ooo_fronts.proofs.fronts.mended.Goals as goal
 
 pub overflow_add-result : goal.overflow_add-result
@@ -35,3 +35,15 @@ returns-in-Some c =
     let gained = c.holds_of-gained.ensures.exact in
     let lost = c.holds_of-lost.ensures.exact in
     omega (arith, changed, is, gained, lost)
+
+pub holds_of-gained-requires-clause-fit : goal.holds_of-gained-requires-clause-fit
+holds_of-gained-requires-clause-fit c = λ h e. fit_itself c.args.tables.now c.args.p h (fit_at c.args.tables.now c.args.fronts.now c.requires.fit c.args.p h e)
+
+pub holds_of-gained-requires-clause-front : goal.holds_of-gained-requires-clause-front
+holds_of-gained-requires-clause-front c = (fit_at c.args.tables.now c.args.fronts.now c.requires.fit c.args.q c.in-Some.f c.in-Some.is).segment
+
+pub holds_of-lost-requires-clause-fit : goal.holds_of-lost-requires-clause-fit
+holds_of-lost-requires-clause-fit c = λ h e. fit_itself c.args.tables.now c.args.p h (c.requires.old h e)
+
+pub holds_of-lost-requires-clause-front : goal.holds_of-lost-requires-clause-front
+holds_of-lost-requires-clause-front c = (fit_at c.args.tables.now c.args.fronts.now c.requires.fit c.args.q c.in-Some.f c.in-Some.is).segment

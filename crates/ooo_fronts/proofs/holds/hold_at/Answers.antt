@@ -1,7 +1,8 @@
 -- By its parts.
 use Rattle.std.proofs.Common.{◌≢◌, ◌∙◌, sym, ap, Some}
 use Rattle.ooo_time.specs.declared.stamp.Stamp.{Stamp}
-use Rattle.ooo_fronts.specs.Holds.{clashes_at, process_in}
+use Rattle.ooo_fronts.specs.Fronts.{process_in}
+use Rattle.ooo_fronts.specs.Holds.{clashes_at}
 use Rattle.ooo_fronts.proofs.Holding.{none_own, none_unled, none_apart, some_clashing}
 use Rattle.ooo_fronts.proofs.holds.hold_at.Goals as goal
 

@@ -7,3 +7,6 @@ returns-in-Some-clause-few c =
     let few = few_hold c.args.tables.now c.in-Some.g c.args.p c.args.f in
     let is = c.count_of.ensures in
     omega (arith, few, is)
+
+pub count_of-requires-clause-fit : goal.count_of-requires-clause-fit
+count_of-requires-clause-fit c = c.requires.fit c.in-Some.g c.in-Some.is

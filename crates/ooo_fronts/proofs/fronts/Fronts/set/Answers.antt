@@ -1,5 +1,6 @@
-use Rattle.std.proofs.Common.{length}
-use Rattle.ooo_fronts.proofs.Counted.{counts_before, fit_after}
+use Rattle.std.proofs.Common.{◌∙◌, sym, subst}
+use Rattle.ooo_fronts.specs.Fronts.{AreFit}
+use Rattle.ooo_fronts.proofs.Counted.{counts_before, fit_after, fit_at, front_read}
 use Rattle.ooo_fronts.proofs.fronts.Fronts.set.Goals as goal
 
 pub mend-requires-clause-counts : goal.mend-requires-clause-counts
@@ -9,4 +10,14 @@ mend-requires-clause-counts c =
 
 pub returns-clause-fit : goal.returns-clause-fit
 returns-clause-fit c =
-    fit_after c.args.self.now c.self.inside.fronts.items c.self.inside.counts.items c.self.view_is (length c.args.tables.now.graph.segments) c.args.p c.args.front c.requires.within c.requires.fit c.requires.new
+    fit_after c.args.self.now c.self.inside.fronts.items c.self.inside.counts.items c.self.view_is c.args.tables.now c.args.p c.args.front c.requires.within c.requires.fit c.requires.new
+
+pub mend-requires-clause-fit : goal.mend-requires-clause-fit
+mend-requires-clause-fit c =
+    subst (AreFit c.args.tables.now) (sym c.as_slice.ensures.value)
+    (fit_after c.args.self.now c.self.inside.fronts.items c.self.inside.counts.items c.self.view_is c.args.tables.now c.args.p c.args.front c.requires.within c.requires.fit c.requires.new)
+
+pub mend-requires-clause-old : goal.mend-requires-clause-old
+mend-requires-clause-old c = λ f e.
+    fit_at c.args.tables.now c.args.self.now.fronts c.requires.fit c.args.p f
+    (front_read c.args.self.now c.self.inside.fronts.items c.self.inside.counts.items c.self.view_is c.args.p c.index-old.result.now c.requires.within c.index-old.ensures ∙ e)
