@@ -10,3 +10,4 @@ pub mod Counted
 pub mod Ruling
 pub mod Earliest
 pub mod Firsts
+pub mod Listing

@@ -1,5 +1,5 @@
 -- What holds a front up, and how many clashes do.
-use Rattle.std.specs.Prelude.{◌≡◌, ◌≢◌, ℕ, zero, suc, ◌+◌, ◌<◌, ◌⊎◌, ◌==◌, nat_lt, List, Option, None, Some, is_some, length, Bool, true, false, ◌&&◌, if◌then◌else◌, slice_get, slice_index_or}
+use Rattle.std.specs.Prelude.{◌≡◌, ◌≢◌, ℕ, zero, suc, ◌+◌, ◌<◌, ◌⊎◌, ◌==◌, nat_lt, List, Option, None, Some, is_some, length, Bool, true, false, ◌&&◌, if◌then◌else◌, slice_index_or}
 use Rattle.ooo_code.specs.declared.design.Design.{Design}
 use Rattle.ooo_code.specs.declared.limits.Limits.{Limits}
 use Rattle.ooo_lemmas.specs.Counting.{count}

@@ -2,3 +2,4 @@ pub mod Fronts
 pub mod Holds
 pub mod Cuts
 pub mod Choices
+pub mod Reaching

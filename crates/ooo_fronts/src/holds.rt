@@ -8,7 +8,7 @@ use ooo_tables::Tables;
 use ooo_time::{Stamp, advance};
 
 // The process of segment b.
-fn process_of(tables: &Tables, b: u32) -> u32
+pub(crate) fn process_of(tables: &Tables, b: u32) -> u32
     requires { b < length tables.now.graph.segments }
     ensures { result ≡ process_in tables.now b }
 {

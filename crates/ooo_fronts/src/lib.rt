@@ -10,8 +10,10 @@ mod front;
 mod fronts;
 mod holds;
 pub mod law;
+mod reaching;
 
 pub use choice::{Choice, State};
 pub use cut::{Break, Cut};
 pub use front::{Front, Hold};
 pub use fronts::Fronts;
+pub use reaching::Reaches;
