@@ -1,5 +1,5 @@
 -- The counts of fronts, and how they change with one front.
-use Rattle.std.proofs.Common.{◌≡◌, ◌≢◌, ◌∙◌, refl, sym, ap, subst, arith, ℕ, ◌+◌, ◌*◌, ◌<◌, ◌≤◌, ◌==◌, inl, inr, true, false, if◌then◌else◌, zero, suc, List, [], ◌∷◌, ◌++◌, length, get_or, set, Option, None, Some}
+use Rattle.std.proofs.Common.{◌≡◌, ◌≢◌, ◌∙◌, refl, sym, ap, subst, arith, ℕ, ◌+◌, ◌*◌, ◌<◌, ◌≤◌, ◌==◌, inl, inr, true, false, if◌then◌else◌, List, [], ◌∷◌, ◌++◌, length, get_or, set, Option, None, Some}
 use Rattle.std.specs.Prelude.{is_some, ◌↔◌}
 use Rattle.std.proofs.lemmas.Bool.{cases_lt, eq-eqb}
 use Rattle.std.proofs.lemmas.Bool.Decides.{eqb_tells}
@@ -92,45 +92,11 @@ module _ (t : Tables) (fronts : List (Option Front)) (p : ℕ) (before : Option 
       alike : (k : ℕ) → k ≢ p → holds_from t (set fronts p before) q f k ≡ holds_from t fronts q f k
       alike k other = ap (λ o. if k == q then 0 else maybe_holds_of t o q f) (get_or-set_other fronts p k before None other)
 
--- ---- counts so far
-
--- the counts below q are those of these fronts, and the others those of the fronts before
-pub record AreMended (t : Tables) (before fronts : List (Option Front)) (q : ℕ) (counts : List ℕ) : Type 0 where
-  pub count : length counts ≡ length fronts
-  pub mended : (k : ℕ) → k < q → get_or counts k 0 ≡ held t fronts k
-  pub others : (k : ℕ) → q ≤ k → get_or counts k 0 ≡ held t before k
-
-pub mended_none : (t : Tables) (before fronts : List (Option Front)) (counts : List ℕ) → length before ≡ length fronts → AreCounts t before counts → AreMended t before fronts 0 counts
-mended_none t before fronts counts same h = record {
-  count = h.count ∙ same;
-  mended = λ k lt. absurd (omega arith);
-  others = λ k le. h.each k;
-}
-
-pub mended_more : (t : Tables) (before fronts : List (Option Front)) (q : ℕ) (counts : List ℕ) (n : ℕ) → q < length fronts → AreMended t before fronts q counts → n ≡ held t fronts q → AreMended t before fronts (q + 1) (set counts q n)
-mended_more t before fronts q counts n lt h e = record {
-  count = length-set counts q n ∙ h.count;
-  mended = λ k below. elim (cases_lt k q) [
-    | inl less ↦ get_or-set_other counts q k n 0 (λ s. absurd (omega (arith, s, less))) ∙ h.mended k less
-    | inr more ↦
-        let same : k ≡ q = omega (arith, below, more) in
-        ap (λ m. get_or (set counts q n) m 0) same ∙ get_or-set_same counts q n 0 (let c = h.count in omega arith) ∙ e ∙ ap (held t fronts) (sym same)
-  ];
-  others = λ k le. get_or-set_other counts q k n 0 (λ s. absurd (omega (arith, s, le))) ∙ h.others k (omega (arith, le));
-}
-
 -- past the end nothing is counted
 pub held_past : (t : Tables) (fronts : List (Option Front)) (p : ℕ) → length fronts ≤ p → held t fronts p ≡ 0
 held_past t fronts p le = held_none t fronts p (get_or_past fronts p None le)
 
-pub mended_all : (t : Tables) (before fronts : List (Option Front)) (q : ℕ) (counts : List ℕ) → length fronts ≤ q → AreMended t before fronts q counts → AreCounts t fronts counts
-mended_all t before fronts q counts le h = record {
-  count = h.count;
-  each = λ k. elim (cases_lt k (length fronts)) [
-    | inl below ↦ h.mended k (omega arith)
-    | inr past ↦ get_or_past counts k 0 (let c = h.count in omega arith) ∙ sym (held_past t fronts k past)
-  ];
-}
+-- ---- counts so far
 
 -- the counts of the first p processes
 pub record AreCounted (t : Tables) (fronts : List (Option Front)) (p : ℕ) (counts : List ℕ) : Type 0 where
@@ -228,12 +194,6 @@ fit_set t fronts p front lt fit new q f e = elim (eqb_tells q p) [
   | inr w ↦ fit_at t fronts fit q f (sym (get_or-set_other fronts p q front None w.1) ∙ get_or_from_slice_get (set fronts p front) q (Some f) None e)
 ]
 
--- a front that is set and set back
-pub set_back : (fronts : List (Option Front)) (p : ℕ) (front : Option Front) → set (set fronts p front) p (get_or fronts p None) ≡ fronts
-set_back [] p front = refl
-set_back (x ∷ xs) zero front = refl
-set_back (x ∷ xs) (suc p) front = ap (λ ys. x ∷ ys) (set_back xs p front)
-
 -- ---- as they are kept
 
 module _ (kept : Kept) (fronts : List (Option Front)) (counts : List ℕ) (view : record { fronts = fronts; counts = counts } ≡ kept) where
@@ -246,14 +206,6 @@ module _ (kept : Kept) (fronts : List (Option Front)) (counts : List ℕ) (view 
   -- a front that was read
   pub front_read : (p : ℕ) (x : Option Front) → p < length kept.fronts → x ≡ get_or fronts p x → get_or kept.fronts p None ≡ x
   front_read p x lt is = get_or_default kept.fronts p None x lt ∙ ap (λ xs. get_or xs p x) same_fronts ∙ sym is
-
-  -- the counts before a front was set, which are those of it set back
-  pub counts_before : (t : Tables) (p : ℕ) (front old : Option Front) (slice : List (Option Front)) (lent : List ℕ) → p < length kept.fronts → AreCounts t kept.fronts kept.counts →
-      old ≡ get_or fronts p old → slice ≡ set fronts p front → lent ≡ counts → AreCounts t (set slice p old) lent
-  counts_before t p front old slice lent lt h is set_is lent_is =
-      let was : old ≡ get_or fronts p None = sym (front_read p old lt is) ∙ ap (λ xs. get_or xs p None) same_fronts in
-      let back : set slice p old ≡ fronts = ap (λ xs. set xs p old) set_is ∙ ap (set (set fronts p front) p) was ∙ set_back fronts p front in
-      subst (AreCounts t (set slice p old)) (same_counts ∙ sym lent_is) (subst (λ xs. AreCounts t xs kept.counts) (same_fronts ∙ sym back) h)
 
   pub fit_after : (t : Tables) (p : ℕ) (front : Option Front) → p < length kept.fronts → AreFit t kept.fronts → ((f : Front) → front ≡ Some f → IsFit t p f) → AreFit t (set fronts p front)
   fit_after t p front lt fit new = subst (λ xs. AreFit t (set xs p front)) same_fronts (fit_set t kept.fronts p front lt fit new)

@@ -1,6 +1,6 @@
 -- What holds a front up is a segment that clashes strictly with it.
 use Rattle.std.proofs.Common.{◌≡◌, ◌≢◌, ◌∙◌, refl, sym, ap, arith, ℕ, ◌<◌, inl, inr, get_or, Bool, true, false, ◌&&◌, if◌then◌else◌, ◌==◌, nat_lt, List, length, Option, None, Some}
-use Rattle.std.proofs.lemmas.Bool.{eq-eqb}
+use Rattle.std.proofs.lemmas.Bool.{eq-eqb, eqb-false}
 use Rattle.std.proofs.lemmas.Bool.Decides.{eqb_tells}
 use Rattle.std.proofs.lemmas.Option.{slice_get-get_or}
 use Rattle.std.specs.Prelude.{slice_get, is_some, Contains, ◌↔◌, []}
@@ -18,9 +18,10 @@ use Rattle.ooo_conflicts.specs.Clashing.{ClashesStrictly}
 use Rattle.ooo_advance.specs.Rows.{entry_at, IsAddable}
 use Rattle.ooo_tables.specs.declared.tables.Tables.{Tables}
 use Rattle.ooo_fronts.specs.declared.front.Front.{Front}
-use Rattle.ooo_fronts.specs.Fronts.{AreAligned, process_in}
-use Rattle.ooo_fronts.specs.Holds.{clashes_at, if_clashing, hold_at}
-use Rattle.ooo_fronts.proofs.Reached.{AreAllOf}
+use Rattle.ooo_fronts.specs.Fronts.{AreAligned, IsFit, process_in}
+use Rattle.ooo_fronts.specs.Holds.{HoldsByNoOther, clashes_at, if_clashing, hold_at, holds_of}
+use Rattle.ooo_fronts.specs.Reaching.{CanHoldProcess, IsListOf, LeadsTo}
+use Rattle.ooo_fronts.proofs.Totals.{none_counted}
 
 -- what clashes at all clashes strictly
 strictly : (x y z : Bool) (k : ClashKind) → (if x then is_clash k true else y && (z && is_clash k false)) ≡ true → is_clash k true ≡ true
@@ -103,17 +104,53 @@ is_gone None h = refl
 is_gone (Some x) h = absurd cc
 
 -- those that clash strictly with a front are all that may hold it up
-pub clashing_are_all : (t : Tables) (g : Front) (p : ℕ) (f : Front) (xs : List ℕ) → AreAligned t → ((b : ℕ) → Contains xs b ↔ ClashesStrictly t.clash b f.segment) → AreAscending xs →
-    AreAllOf (λ b. is_some (hold_at t g p f b)) (length t.graph.segments) xs
+pub clashing_are_all : (t : Tables) (g : Front) (p : ℕ) (f : Front) (xs : List ℕ) → AreAligned t → ((b : ℕ) → Contains xs b ↔ ClashesStrictly t.clash b f.segment) → AreAscending xs → HoldsByNoOther t g p f xs
 clashing_are_all t g p f xs aligned exact up = record {
   ascending = up;
   within = λ b c. let lt = ((exact b).0 c).0 in let n = aligned.clash in omega arith;
-  all = λ b lt h.
-      let r = is_there (hold_at t g p f b) h in
-      let n = aligned.clash in
-      let below : b < length t.clash = omega arith in
-      (exact b).1 (below, clashing_strictly t g p f b r.0 r.1);
+  others = λ b lt out. at b lt out (hold_at t g p f b) refl;
 }
+  where
+    at : (b : ℕ) → b < length t.graph.segments → (Contains xs b → ⊥) → (o : Option Stamp) → hold_at t g p f b ≡ o → is_some (hold_at t g p f b) ≡ false
+    at b lt out None e = ap (λ (o : Option Stamp). is_some o) e
+    at b lt out (Some s) e =
+        let n = aligned.clash in
+        let below : b < length t.clash = omega arith in
+        absurd (out ((exact b).1 (below, clashing_strictly t g p f b s e)))
+
+-- and so are those to which the other front leads
+pub leads_are_all : (t : Tables) (g : Front) (p : ℕ) (f : Front) (xs : List ℕ) → IsListOf (LeadsTo t g.segment) xs → HoldsByNoOther t g p f xs
+leads_are_all t g p f xs is = record {
+  ascending = is.ascending;
+  within = λ b c. ((is.exact b).0 c).0;
+  others = λ b lt out. at b lt out (hold_at t g p f b) refl;
+}
+  where
+    at : (b : ℕ) → b < length t.graph.segments → (Contains xs b → ⊥) → (o : Option Stamp) → hold_at t g p f b ≡ o → is_some (hold_at t g p f b) ≡ false
+    at b lt out None e = ap (λ (o : Option Stamp). is_some o) e
+    at b lt out (Some s) e = absurd (out ((is.exact b).1 (lt, ap (λ (o : Option Delay). is_some o) (found_by t g p f b s e).leads)))
+
+-- a front that can't hold up the process of another one doesn't
+pub cannot_hold : (t : Tables) (g : Front) (p : ℕ) (f : Front) → IsFit t p f → (CanHoldProcess t g.segment p → ⊥) → holds_of t g p f ≡ 0
+unfolding holds_of
+cannot_hold t g p f fit out = none_counted (λ b. is_some (hold_at t g p f b)) (length t.graph.segments) (λ b lt. at b lt (hold_at t g p f b) refl)
+  where
+    at : (b : ℕ) → b < length t.graph.segments → (o : Option Stamp) → hold_at t g p f b ≡ o → is_some (hold_at t g p f b) ≡ false
+    at b lt None e = ap (λ (o : Option Stamp). is_some o) e
+    at b lt (Some s) e =
+        let r = found_by t g p f b s e in
+        let other : process_in t b ≢ process_in t f.segment = λ same. eqb-false (process_in t b) p r.other (same ∙ fit.process) in
+        absurd (
+        out (
+          f.segment,
+          fit.segment,
+          fit.process,
+          record {
+            by = b;
+            leads = (lt, ap (λ (o : Option Delay). is_some o) r.leads);
+            meets = (other, clashing_strictly t g p f b s e);
+          },
+        ))
 
 -- a delay of the table can be added
 pub addable_at : (t : Tables) (a b : ℕ) (d : Delay) → AreAligned t → a < length t.graph.segments → entry_at t.advance a b ≡ Some d → IsAddable d

@@ -7,6 +7,7 @@ pub mod Reached
 pub mod Orders
 pub mod Holding
 pub mod Counted
+pub mod Mending
 pub mod Ruling
 pub mod Earliest
 pub mod Firsts

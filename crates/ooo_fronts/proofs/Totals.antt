@@ -78,6 +78,24 @@ total_at_most f (suc n) h = let rest = total_at_most f n h in let last = h n in 
 pub total_more : (f : ℕ → ℕ) (n : ℕ) → total f (n + 1) ≡ total f n + f n
 total_more f n = let next : n + 1 ≡ suc n = omega arith in ap (total f) next
 
+-- where nothing is added from m on
+pub total_skips : (f : ℕ → ℕ) (m n : ℕ) → m ≤ n → ((b : ℕ) → m ≤ b → b < n → f b ≡ 0) → total f n ≡ total f m
+total_skips f m zero le none = let e : 0 ≡ m = omega arith in ap (total f) e
+total_skips f m (suc n) le none = elim (cases_lt m (suc n)) [
+  | inl below ↦
+      let rest : total f n ≡ total f m = total_skips f m n (omega arith) (λ b from to. none b from (omega arith)) in
+      let last = none n (omega arith) (omega arith) in
+      omega (arith, rest, last)
+  | inr above ↦ let e : suc n ≡ m = omega arith in ap (total f) e
+]
+
+pub total_rises : (f : ℕ → ℕ) (m n : ℕ) → m ≤ n → total f m ≤ total f n
+total_rises f m zero le = let e : m ≡ 0 = omega arith in let same = ap (total f) e in omega (arith, same)
+total_rises f m (suc n) le = elim (cases_lt m (suc n)) [
+  | inl below ↦ let rest : total f m ≤ total f n = total_rises f m n (omega arith) in omega (arith, rest)
+  | inr above ↦ let e : m ≡ suc n = omega arith in let same = ap (total f) e in omega (arith, same)
+]
+
 pub none_added : (f : ℕ → ℕ) (n : ℕ) → ((k : ℕ) → k < n → f k ≡ 0) → total f n ≡ 0
 none_added f zero h = refl
 none_added f (suc n) h =

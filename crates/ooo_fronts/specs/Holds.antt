@@ -1,8 +1,9 @@
 -- What holds a front up, and how many clashes do.
-use Rattle.std.specs.Prelude.{◌≡◌, ◌≢◌, ℕ, zero, suc, ◌+◌, ◌<◌, ◌⊎◌, ◌==◌, nat_lt, List, Option, None, Some, is_some, length, Bool, true, false, ◌&&◌, if◌then◌else◌, slice_index_or}
+use Rattle.std.specs.Prelude.{◌≡◌, ◌≢◌, ℕ, zero, suc, ◌+◌, ◌<◌, ◌⊎◌, ◌==◌, nat_lt, List, Option, None, Some, is_some, length, Bool, true, false, ◌&&◌, if◌then◌else◌, slice_index_or, Contains}
 use Rattle.ooo_code.specs.declared.design.Design.{Design}
 use Rattle.ooo_code.specs.declared.limits.Limits.{Limits}
 use Rattle.ooo_lemmas.specs.Counting.{count}
+use Rattle.ooo_access.specs.Access.{AreAscending}
 use Rattle.ooo_time.specs.declared.stamp.Stamp.{Stamp}
 use Rattle.ooo_time.specs.Stamps.{is_before}
 use Rattle.ooo_time.specs.Delays.{advanced}
@@ -67,6 +68,23 @@ held t fronts p = held_at t fronts p (slice_index_or fronts p None)
 pub record AreCounts (t : Tables) (fronts : List (Option Front)) (counts : List ℕ) : Type 0 where
   pub count : length counts ≡ length fronts
   pub each : (p : ℕ) → slice_index_or counts p 0 ≡ held t fronts p
+
+-- the counts before and after are the same but for that of process q
+pub record ChangesOnly (q : ℕ) (before after : List ℕ) : Type 0 where
+  pub count : length after ≡ length before
+  pub others : (k : ℕ) → k ≢ q → slice_index_or after k 0 ≡ slice_index_or before k 0
+
+-- ---- some of many numbers
+
+-- the numbers ascend and are below n, and this holds of each other number below n
+pub record HoldsOfOthers (P : ℕ → Type 0) (n : ℕ) (numbers : List ℕ) : Type 0 where
+  pub ascending : AreAscending numbers
+  pub within : (b : ℕ) → Contains numbers b → b < n
+  pub others : (b : ℕ) → b < n → (Contains numbers b → ⊥) → P b
+
+-- the front g holds the front f of process p up by none but these segments
+abbrev pub HoldsByNoOther : Tables → (g : Front) → (p : ℕ) → (f : Front) → (segments : List ℕ) → Type 0
+HoldsByNoOther t g p f segments = HoldsOfOthers (λ b. is_some (hold_at t g p f b) ≡ false) (length t.graph.segments) segments
 
 -- ---- which one
 

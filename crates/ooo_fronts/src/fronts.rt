@@ -1,4 +1,4 @@
-ghost use Rattle.std.specs.Prelude.{◌≡◌, ◌<◌, ◌≤◌, ◌↔◌, ◌⊎◌, false, IfOk, length, slice_index, slice_index_or, slice_set};
+ghost use Rattle.std.specs.Prelude.{◌≡◌, ◌≢◌, ◌<◌, ◌≤◌, ◌↔◌, ◌⊎◌, false, IfOk, length, slice_index, slice_index_or, slice_set};
 ghost use Rattle.ooo_time.specs.declared.stamp.Stamp.{Stamp as StampSpec};
 ghost use Rattle.ooo_time.specs.Stamps.{IsBefore};
 ghost use Rattle.ooo_segments.specs.Beginnings.{greatest_segments};
@@ -7,10 +7,12 @@ ghost use Rattle.ooo_dispatch.specs.Rules.{Rules};
 ghost use Rattle.ooo_fronts.specs.declared.front.Front.{Front as FrontSpec};
 ghost use Rattle.ooo_fronts.specs.Cuts.{IsLeastStamp};
 ghost use Rattle.ooo_fronts.specs.Fronts.{AreAligned, AreFit, AreFrontsOf, IsFit, IsLeastOf};
-ghost use Rattle.ooo_fronts.specs.Holds.{AreCounts, IsFirstFrom, IsFirstHold, held};
+ghost use Rattle.ooo_fronts.specs.Holds.{AreCounts, ChangesOnly, IsFirstFrom, IsFirstHold, held, holds_from};
+ghost use Rattle.ooo_fronts.specs.Reaching.{AreReaches};
 
 use crate::front::{Front, Hold};
-use crate::holds::{first_of, holds_of};
+use crate::holds::{first_of, holds_of, maybe_holds_of};
+use crate::reaching::Reaches;
 use ooo_tables::Tables;
 use ooo_time::Stamp;
 use std::alloc::{AllocError, Global};
@@ -45,15 +47,17 @@ impl Fronts {
     pub fn make(
         alloc: Global,
         tables: &Tables,
+        reaches: &Reaches,
         fronts: Vec<Option<Front>>,
     ) -> Result<Fronts, AllocError>
         requires aligned { AreAligned tables.now }
+        requires reaches { AreReaches tables.now reaches.now }
         requires few { length fronts.items ≤ greatest_segments }
         requires fit { AreFit tables.now fronts.items }
         ensures fronts { IfOk result (λ f. f.fronts ≡ fronts.items) }
         ensures counts { IfOk result (λ f. AreCounts tables.now f.fronts f.counts) }
     {
-        let counts = counts_of(alloc, tables, fronts.as_slice())?;
+        let counts = counts_of(alloc, tables, reaches, fronts.as_slice())?;
         Ok(Fronts { fronts, counts })
     }
 
@@ -79,10 +83,12 @@ impl Fronts {
         self.fronts[p as usize]
     }
 
-    /// Gives process `p` this front, and mends all counts. It takes no memory, and for each process a number of steps by how
-    /// many segments clash strictly with its front.
-    pub fn set(&mut self, tables: &Tables, p: u32, front: Option<Front>)
+    /// Gives process `p` this front, and mends the counts. It takes no memory, and goes over no processes but those that the
+    /// old front or the new one can hold up, and those that can hold the new one up: of each over the fewer of the segments
+    /// to which the holding front leads, and of those that clash strictly with the one that is held.
+    pub fn set(&mut self, tables: &Tables, reaches: &Reaches, p: u32, front: Option<Front>)
         requires aligned { AreAligned tables.now }
+        requires reaches { AreReaches tables.now reaches.now }
         requires within { p < length self.old.fronts }
         requires fit { AreFit tables.now self.old.fronts }
         requires new { (f : FrontSpec) → front ≡ Some f → IsFit tables.now p f }
@@ -91,14 +97,20 @@ impl Fronts {
         ensures counts { AreCounts tables.now self.new.fronts self.new.counts }
         ensures fit { AreFit tables.now self.new.fronts }
     {
-        let old = self.fronts[p as usize];
-        self.fronts[p as usize] = front;
-        mend(
+        leave(
             tables,
+            reaches,
             self.fronts.as_slice(),
             self.counts.as_mut_slice(),
             p,
-            old,
+        );
+        self.fronts[p as usize] = front;
+        enter(
+            tables,
+            reaches,
+            self.fronts.as_slice(),
+            self.counts.as_mut_slice(),
+            p,
         );
     }
 
@@ -204,23 +216,26 @@ fn first_from(tables: &Tables, fronts: &[Option<Front>], q: u32, p: u32, f: Fron
 fn counts_of(
     alloc: Global,
     tables: &Tables,
+    reaches: &Reaches,
     fronts: &[Option<Front>],
 ) -> Result<Vec<u32>, AllocError>
     requires aligned { AreAligned tables.now }
+    requires reaches { AreReaches tables.now reaches.now }
     requires few { length fronts.now ≤ greatest_segments }
     requires fit { AreFit tables.now fronts.now }
     ensures { IfOk result (λ counts. AreCounts tables.now fronts.now counts.items) }
 {
     let mut counts = Vec::with_capacity(alloc, fronts.len())?;
     for p in 0..fronts.len() {
-        counts.push(count_of(tables, fronts, p as u32))?;
+        counts.push(count_of(tables, reaches, fronts, p as u32))?;
     }
     Ok(counts)
 }
 
 // How many pairs of a front of another process and a segment hold process p up.
-fn count_of(tables: &Tables, fronts: &[Option<Front>], p: u32) -> u32
+fn count_of(tables: &Tables, reaches: &Reaches, fronts: &[Option<Front>], p: u32) -> u32
     requires aligned { AreAligned tables.now }
+    requires reaches { AreReaches tables.now reaches.now }
     requires few { length fronts.now ≤ greatest_segments }
     requires within { p < length fronts.now }
     requires fit { AreFit tables.now fronts.now }
@@ -229,63 +244,136 @@ fn count_of(tables: &Tables, fronts: &[Option<Front>], p: u32) -> u32
     let Some(f) = fronts[p as usize] else {
         return 0;
     };
+    let holders = reaches.holders(p);
     let mut count = 0;
-    for q in 0..fronts.len() {
-        if q != p as usize {
-            count += holds_of(tables, fronts[q], p, f);
-        }
+    for q in holders {
+        count += holds_from(tables, reaches, fronts, *q, p, f);
     }
     count
 }
 
-// Mends the counts, where the front of process p was another one before these fronts.
-fn mend(
+// By how many segments the front of process q holds the front f of process p up; none where that is q's own.
+fn holds_from(
     tables: &Tables,
+    reaches: &Reaches,
     fronts: &[Option<Front>],
-    counts: &mut [u32],
+    q: u32,
     p: u32,
-    before: Option<Front>,
-)
+    f: Front,
+) -> u32
     requires aligned { AreAligned tables.now }
-    requires few { length fronts.now ≤ greatest_segments }
+    requires reaches { AreReaches tables.now reaches.now }
+    requires fit { AreFit tables.now fronts.now }
+    requires front { f.segment < length tables.now.graph.segments }
+    ensures { result ≡ holds_from tables.now fronts.now p f q }
+{
+    if q == p {
+        return 0;
+    }
+    maybe_holds_of(tables, reaches, front_at(fronts, q), p, f)
+}
+
+// The front of process q; none of a process that there isn't.
+fn front_at(fronts: &[Option<Front>], q: u32) -> Option<Front>
+    ensures { result ≡ slice_index_or fronts.now q None }
+{
+    *fronts.get(q as usize)?
+}
+
+// Mends the counts for the front of process p to leave: those that it can hold up are held up by so much less, and p itself
+// by nothing.
+fn leave(tables: &Tables, reaches: &Reaches, fronts: &[Option<Front>], counts: &mut [u32], p: u32)
+    requires aligned { AreAligned tables.now }
+    requires reaches { AreReaches tables.now reaches.now }
     requires within { p < length fronts.now }
     requires fit { AreFit tables.now fronts.now }
-    requires old { (f : FrontSpec) → before ≡ Some f → IsFit tables.now p f }
-    requires counts { AreCounts tables.now (slice_set fronts.now p before) counts.old }
-    ensures { AreCounts tables.now fronts.now counts.new }
+    requires counts { AreCounts tables.now fronts.now counts.old }
+    ensures { AreCounts tables.now (slice_set fronts.now p None) counts.new }
 {
-    for q in 0..fronts.len() {
-        counts[q] = mended(tables, fronts, q as u32, counts[q], p, before);
+    let Some(old) = fronts[p as usize] else {
+        return;
+    };
+    let affected = reaches.affected(old.segment);
+    for q in affected {
+        lower(tables, reaches, fronts, counts, *q, p, old);
+    }
+    counts[p as usize] = 0;
+}
+
+// Takes off the count of process q what the front g of process p holds it up by, if that is another process.
+fn lower(
+    tables: &Tables,
+    reaches: &Reaches,
+    fronts: &[Option<Front>],
+    counts: &mut [u32],
+    q: u32,
+    p: u32,
+    g: Front,
+)
+    requires aligned { AreAligned tables.now }
+    requires reaches { AreReaches tables.now reaches.now }
+    requires count { length counts.old ≡ length fronts.now }
+    requires own { slice_index_or fronts.now p None ≡ Some g }
+    requires fit { AreFit tables.now fronts.now }
+    requires held { q ≢ p → slice_index_or counts.old q 0 ≡ held tables.now fronts.now q }
+    ensures only { ChangesOnly q counts.old counts.new }
+    ensures held { q ≢ p →
+        slice_index_or counts.new q 0 ≡ held tables.now (slice_set fronts.now p None) q }
+{
+    if q == p {
+        return;
+    }
+    if let Some(f) = front_at(fronts, q) {
+        counts[q as usize] -= holds_of(tables, reaches, g, q, f);
     }
 }
 
-// The count of process q, where it was this one before the front of process p was set.
-fn mended(
-    tables: &Tables,
-    fronts: &[Option<Front>],
-    q: u32,
-    count: u32,
-    p: u32,
-    before: Option<Front>,
-) -> u32
+// Mends the counts for the front of process p to enter: those that it can hold up are held up by so much more, and p itself
+// by all others.
+fn enter(tables: &Tables, reaches: &Reaches, fronts: &[Option<Front>], counts: &mut [u32], p: u32)
     requires aligned { AreAligned tables.now }
+    requires reaches { AreReaches tables.now reaches.now }
     requires few { length fronts.now ≤ greatest_segments }
     requires within { p < length fronts.now }
-    requires one { q < length fronts.now }
     requires fit { AreFit tables.now fronts.now }
-    requires old { (f : FrontSpec) → before ≡ Some f → IsFit tables.now p f }
-    requires count { count ≡ held tables.now (slice_set fronts.now p before) q }
-    ensures { result ≡ held tables.now fronts.now q }
+    requires counts { AreCounts tables.now (slice_set fronts.now p None) counts.old }
+    ensures { AreCounts tables.now fronts.now counts.new }
+{
+    let Some(new) = fronts[p as usize] else {
+        return;
+    };
+    let affected = reaches.affected(new.segment);
+    for q in affected {
+        raise(tables, reaches, fronts, counts, *q, p, new);
+    }
+    counts[p as usize] = count_of(tables, reaches, fronts, p);
+}
+
+// Puts onto the count of process q what the front g of process p holds it up by, if that is another process.
+fn raise(
+    tables: &Tables,
+    reaches: &Reaches,
+    fronts: &[Option<Front>],
+    counts: &mut [u32],
+    q: u32,
+    p: u32,
+    g: Front,
+)
+    requires aligned { AreAligned tables.now }
+    requires reaches { AreReaches tables.now reaches.now }
+    requires few { length fronts.now ≤ greatest_segments }
+    requires count { length counts.old ≡ length fronts.now }
+    requires own { slice_index_or fronts.now p None ≡ Some g }
+    requires fit { AreFit tables.now fronts.now }
+    requires held { q ≢ p →
+        slice_index_or counts.old q 0 ≡ held tables.now (slice_set fronts.now p None) q }
+    ensures only { ChangesOnly q counts.old counts.new }
+    ensures held { q ≢ p → slice_index_or counts.new q 0 ≡ held tables.now fronts.now q }
 {
     if q == p {
-        return count_of(tables, fronts, p);
+        return;
     }
-    match fronts[q as usize] {
-        None => 0,
-        Some(f) => {
-            let gained = holds_of(tables, fronts[p as usize], q, f);
-            let lost = holds_of(tables, before, q, f);
-            count + gained - lost
-        }
+    if let Some(f) = front_at(fronts, q) {
+        counts[q as usize] += holds_of(tables, reaches, g, q, f);
     }
 }

@@ -1,9 +1,11 @@
 ghost use Rattle.std.specs.Prelude.{◌≡◌, ◌<◌, ◌≤◌, length};
 ghost use Rattle.ooo_fronts.specs.declared.front.Front.{Front as FrontSpec};
 ghost use Rattle.ooo_fronts.specs.Fronts.{AreAligned, IsFitOfItself, process_in};
-ghost use Rattle.ooo_fronts.specs.Holds.{clashes_at, hold_at, holds_of, maybe_holds_of, IsFirstBy};
+ghost use Rattle.ooo_fronts.specs.Holds.{clashes_at, hold_at, holds_of, maybe_holds_of, HoldsByNoOther, IsFirstBy};
+ghost use Rattle.ooo_fronts.specs.Reaching.{AreReaches};
 
 use crate::front::Front;
+use crate::reaching::Reaches;
 use ooo_tables::Tables;
 use ooo_time::{Stamp, advance};
 
@@ -55,8 +57,15 @@ fn hold_at(tables: &Tables, g: Front, p: u32, f: Front, b: u32) -> Option<Stamp>
 }
 
 // By how many segments the front g, if there is one, holds the front f of process p up.
-pub(crate) fn holds_of(tables: &Tables, g: Option<Front>, p: u32, f: Front) -> u32
+pub(crate) fn maybe_holds_of(
+    tables: &Tables,
+    reaches: &Reaches,
+    g: Option<Front>,
+    p: u32,
+    f: Front,
+) -> u32
     requires aligned { AreAligned tables.now }
+    requires reaches { AreReaches tables.now reaches.now }
     requires fit { (h : FrontSpec) → g ≡ Some h → IsFitOfItself tables.now h }
     requires front { f.segment < length tables.now.graph.segments }
     ensures exact { result ≡ maybe_holds_of tables.now g p f }
@@ -64,20 +73,39 @@ pub(crate) fn holds_of(tables: &Tables, g: Option<Front>, p: u32, f: Front) -> u
 {
     match g {
         None => 0,
-        Some(g) => count_of(tables, g, p, f),
+        Some(g) => holds_of(tables, reaches, g, p, f),
     }
 }
 
-// By how many segments the front g holds the front f of process p up. Only those that clash strictly with f's can.
-fn count_of(tables: &Tables, g: Front, p: u32, f: Front) -> u32
+// By how many segments the front g holds the front f of process p up. Only those to which it leads can, and only those that
+// clash strictly with f's, so it goes over whichever are fewer.
+pub(crate) fn holds_of(tables: &Tables, reaches: &Reaches, g: Front, p: u32, f: Front) -> u32
     requires aligned { AreAligned tables.now }
+    requires reaches { AreReaches tables.now reaches.now }
+    requires fit { IsFitOfItself tables.now g }
+    requires front { f.segment < length tables.now.graph.segments }
+    ensures exact { result ≡ holds_of tables.now g p f }
+    ensures few { result ≤ length tables.now.graph.segments }
+{
+    let leads = reaches.leads(g.segment);
+    let clashing = tables.clash.clashing(f.segment);
+    if leads.len() <= clashing.len() {
+        count_among(tables, leads, g, p, f)
+    } else {
+        count_among(tables, clashing, g, p, f)
+    }
+}
+
+// By how many of these segments the front g holds the front f of process p up, where it does so by no other.
+fn count_among(tables: &Tables, segments: &[u32], g: Front, p: u32, f: Front) -> u32
+    requires aligned { AreAligned tables.now }
+    requires all { HoldsByNoOther tables.now g p f segments.now }
     requires fit { IsFitOfItself tables.now g }
     requires front { f.segment < length tables.now.graph.segments }
     ensures { result ≡ holds_of tables.now g p f }
 {
-    let clashing = tables.clash.clashing(f.segment);
     let mut count = 0;
-    for b in clashing {
+    for b in segments {
         if hold_at(tables, g, p, f, *b).is_some() {
             count += 1;
         }

@@ -1,30 +1,90 @@
--- Front by front.
-use Rattle.std.proofs.Common.{◌≡◌, ◌∙◌, sym, ap, length, arith}
-use Rattle.ooo_fronts.specs.Holds.{holds_from, total}
-use Rattle.ooo_fronts.proofs.Counted.{fit_at, fit_itself, held_none, held_some, few_so_far}
+-- Process by process.
+use Rattle.std.proofs.Common.{◌∙◌, ◌+◌, ◌<◌, sym, ap, subst, length, arith}
+use Rattle.std.proofs.lemmas.List.{get_or_default}
+use Rattle.ooo_fronts.specs.Holds.{holds_from}
+use Rattle.ooo_fronts.specs.Reaching.{CanBeHeldBy, IsListOf}
+use Rattle.ooo_fronts.proofs.Counted.{few_so_far, fit_at, held_none, held_some}
+use Rattle.ooo_fronts.proofs.Mending.{holders_are_all, total_of_fronts}
+use Rattle.ooo_fronts.proofs.Reached.{added_all, added_first, added_more, added_so_far}
 use Rattle.ooo_fronts.proofs.fronts.count_of.Goals as goal
 
 pub returns-in_default : goal.returns-in_default
 returns-in_default c = sym (held_none c.args.tables.now c.args.fronts.now c.args.p c.in_default.is)
 
-pub holds_of-count-requires-clause-fit : goal.holds_of-count-requires-clause-fit
-holds_of-count-requires-clause-fit c = λ h e. fit_itself c.args.tables.now c.loop-q.q h (fit_at c.args.tables.now c.args.fronts.now c.requires.fit c.loop-q.q h e)
+pub holders-holders-requires : goal.holders-holders-requires
+holders-holders-requires c =
+    let fit = fit_at c.args.tables.now c.args.fronts.now c.requires.fit c.args.p c.in-Some.f c.in-Some.is in
+    let lt = c.requires.reaches.processes c.in-Some.f.segment fit.segment in
+    let e = fit.process in
+    omega (arith, lt, e)
 
-pub holds_of-count-requires-clause-front : goal.holds_of-count-requires-clause-front
-holds_of-count-requires-clause-front c = (fit_at c.args.tables.now c.args.fronts.now c.requires.fit c.args.p c.in-Some.f c.in-Some.is).segment
+pub loop-q-init : goal.loop-q-init
+loop-q-init c =
+    let a = c.args in
+    let t = a.tables.now in
+    let f = c.in-Some.f in
+    let fit = fit_at t a.fronts.now c.requires.fit a.p f c.in-Some.is in
+    let lt : a.p < length a.reaches.now.holders = let x = c.requires.reaches.processes f.segment fit.segment in let e = fit.process in omega (arith, x, e) in
+    let xs = c.holders-holders.result.now in
+    let list = subst (IsListOf (CanBeHeldBy t a.p)) (sym c.holders-holders.ensures) (c.requires.reaches.holders.each a.p lt) in
+    let all = holders_are_all t a.reaches.now a.fronts.now a.p f xs c.requires.reaches c.requires.fit c.in-Some.is list in
+    sym (added_first (holds_from t a.fronts.now a.p f) (length a.fronts.now + length a.reaches.now.holders) xs all)
+
+pub holds_from-count-requires-clause-front : goal.holds_from-count-requires-clause-front
+holds_from-count-requires-clause-front c = (fit_at c.args.tables.now c.args.fronts.now c.requires.fit c.args.p c.in-Some.f c.in-Some.is).segment
 
 pub overflow_add-count : goal.overflow_add-count
 overflow_add-count c =
-    let few = few_so_far c.args.tables.now c.args.fronts.now c.args.p c.in-Some.f c.loop-q.q c.requires.aligned in
+    let a = c.args in
+    let t = a.tables.now in
+    let f = c.in-Some.f in
+    let fit = fit_at t a.fronts.now c.requires.fit a.p f c.in-Some.is in
+    let lt : a.p < length a.reaches.now.holders = let x = c.requires.reaches.processes f.segment fit.segment in let e = fit.process in omega (arith, x, e) in
+    let xs = c.holders-holders.result.now in
+    let i = c.loop-q.q-index in
+    let n = length a.fronts.now + length a.reaches.now.holders in
+    let from = holds_from t a.fronts.now a.p f in
+    let list = subst (IsListOf (CanBeHeldBy t a.p)) (sym c.holders-holders.ensures) (c.requires.reaches.holders.each a.p lt) in
+    let all = holders_are_all t a.reaches.now a.fronts.now a.p f xs c.requires.reaches c.requires.fit c.in-Some.is list in
+    let more = added_more from n xs all i c.loop-q-test.true in
+    let top = added_so_far from n xs all (i + 1) in
+    let same = total_of_fronts t a.fronts.now a.p f (length a.reaches.now.holders) in
+    let few = few_so_far t a.fronts.now a.p f (length a.fronts.now) c.requires.aligned in
+    let here = ap from (get_or_default xs i 0 n c.loop-q-test.true) in
+    let is = c.holds_from-count.ensures in
     let so_far = c.loop-q.invariant in
-    let more = c.holds_of-count.ensures.few in
-    let segments = c.requires.aligned.few in
     let processes = c.requires.few in
-    let here = c.loop-q-test.true in
-    omega (arith, few, so_far, more, segments, processes, here)
+    omega (arith, more, top, same, few, here, is, so_far, processes)
+
+pub loop-q-preserved : goal.loop-q-preserved
+loop-q-preserved c =
+    let a = c.args in
+    let t = a.tables.now in
+    let f = c.in-Some.f in
+    let fit = fit_at t a.fronts.now c.requires.fit a.p f c.in-Some.is in
+    let lt : a.p < length a.reaches.now.holders = let x = c.requires.reaches.processes f.segment fit.segment in let e = fit.process in omega (arith, x, e) in
+    let xs = c.holders-holders.result.now in
+    let i = c.loop-q.q-index in
+    let n = length a.fronts.now + length a.reaches.now.holders in
+    let from = holds_from t a.fronts.now a.p f in
+    let list = subst (IsListOf (CanBeHeldBy t a.p)) (sym c.holders-holders.ensures) (c.requires.reaches.holders.each a.p lt) in
+    let all = holders_are_all t a.reaches.now a.fronts.now a.p f xs c.requires.reaches c.requires.fit c.in-Some.is list in
+    let more = added_more from n xs all i c.loop-q-test.true in
+    let here = ap from (get_or_default xs i 0 n c.loop-q-test.true) in
+    let is = c.holds_from-count.ensures in
+    let so_far = c.loop-q.invariant in
+    omega (arith, more, here, is, so_far)
 
 pub returns : goal.returns
 returns c =
     let a = c.args in
-    let end : c.loop-q.q ≡ length a.fronts.now = let x = c.loop-q-test.false in let y = c.loop-q.auto.q-end in omega arith in
-    c.loop-q.invariant ∙ ap (total (holds_from a.tables.now a.fronts.now a.p c.in-Some.f)) end ∙ sym (held_some a.tables.now a.fronts.now a.p c.in-Some.f c.in-Some.is)
+    let t = a.tables.now in
+    let f = c.in-Some.f in
+    let fit = fit_at t a.fronts.now c.requires.fit a.p f c.in-Some.is in
+    let lt : a.p < length a.reaches.now.holders = let x = c.requires.reaches.processes f.segment fit.segment in let e = fit.process in omega (arith, x, e) in
+    let xs = c.holders-holders.result.now in
+    let n = length a.fronts.now + length a.reaches.now.holders in
+    let from = holds_from t a.fronts.now a.p f in
+    let list = subst (IsListOf (CanBeHeldBy t a.p)) (sym c.holders-holders.ensures) (c.requires.reaches.holders.each a.p lt) in
+    let all = holders_are_all t a.reaches.now a.fronts.now a.p f xs c.requires.reaches c.requires.fit c.in-Some.is list in
+    c.loop-q.invariant ∙ added_all from n xs all c.loop-q.q-index c.loop-q-test.false ∙ total_of_fronts t a.fronts.now a.p f (length a.reaches.now.holders) ∙ sym (held_some t a.fronts.now a.p f c.in-Some.is)

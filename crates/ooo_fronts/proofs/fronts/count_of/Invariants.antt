@@ -1,7 +1,7 @@
--- So many by the fronts so far.
-use Rattle.std.proofs.Common.{◌≡◌}
+-- So many by the fronts of the processes below the next that can hold it up.
+use Rattle.std.proofs.Common.{◌≡◌, ◌+◌, length, get_or}
 use Rattle.ooo_fronts.specs.Holds.{holds_from, total}
 use Rattle.ooo_fronts.proofs.fronts.count_of.Given as goal
 
 abbrev pub invariant-loop-q : goal.invariant-loop-q
-invariant-loop-q l = l.count ≡ total (holds_from l.tables l.fronts l.p l.f) l.q
+invariant-loop-q l = l.count ≡ total (holds_from l.tables l.fronts l.p l.f) (get_or l.holders l.q-index (length l.fronts + length l.reaches.holders))

@@ -1,12 +1,30 @@
-use Rattle.std.proofs.Common.{arith}
+-- By those to which the one leads, or those that clash strictly with the other.
+use Rattle.std.proofs.Common.{sym, subst, arith}
+use Rattle.ooo_fronts.specs.Reaching.{IsListOf, LeadsTo}
 use Rattle.ooo_fronts.proofs.Counted.{few_hold}
+use Rattle.ooo_fronts.proofs.Holding.{clashing_are_all, leads_are_all}
 use Rattle.ooo_fronts.proofs.holds.holds_of.Goals as goal
 
-pub returns-in-Some-clause-few : goal.returns-in-Some-clause-few
-returns-in-Some-clause-few c =
-    let few = few_hold c.args.tables.now c.in-Some.g c.args.p c.args.f in
-    let is = c.count_of.ensures in
+pub count_among-requires-clause-all : goal.count_among-requires-clause-all
+count_among-requires-clause-all c =
+    let a = c.args in
+    let t = a.tables.now in
+    let list = subst (IsListOf (LeadsTo t a.g.segment)) (sym c.leads-leads.ensures) (c.requires.reaches.leads.each a.g.segment c.requires.fit.segment) in
+    leads_are_all t a.g a.p a.f c.leads-leads.result.now list
+
+pub count_among-requires-else-leads-clashing-clause-all : goal.count_among-requires-else-leads-clashing-clause-all
+count_among-requires-else-leads-clashing-clause-all c =
+    let a = c.args in
+    clashing_are_all a.tables.now a.g a.p a.f c.clashing-clashing.result.now c.requires.aligned c.clashing-clashing.ensures.exact c.clashing-clashing.ensures.ascending
+
+pub returns-then-leads-clashing-clause-few : goal.returns-then-leads-clashing-clause-few
+returns-then-leads-clashing-clause-few c =
+    let few = few_hold c.args.tables.now c.args.g c.args.p c.args.f in
+    let is = c.count_among.ensures in
     omega (arith, few, is)
 
-pub count_of-requires-clause-fit : goal.count_of-requires-clause-fit
-count_of-requires-clause-fit c = c.requires.fit c.in-Some.g c.in-Some.is
+pub returns-else-leads-clashing-clause-few : goal.returns-else-leads-clashing-clause-few
+returns-else-leads-clashing-clause-few c =
+    let few = few_hold c.args.tables.now c.args.g c.args.p c.args.f in
+    let is = c.count_among-else-leads-clashing.ensures in
+    omega (arith, few, is)

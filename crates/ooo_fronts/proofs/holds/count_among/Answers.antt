@@ -5,32 +5,31 @@ use Rattle.std.proofs.lemmas.List.{get_or_default}
 use Rattle.std.proofs.lemmas.List.Elements.{Contains-get_or}
 use Rattle.ooo_lemmas.proofs.Counting.{count_at_most}
 use Rattle.ooo_fronts.specs.Holds.{hold_at, holds_of}
-use Rattle.ooo_fronts.proofs.Holding.{clashing_are_all}
 use Rattle.ooo_fronts.proofs.Reached.{counted_first, counted_yes, counted_no, counted_all}
-use Rattle.ooo_fronts.proofs.holds.count_of.Goals as goal
-use Rattle.ooo_fronts.proofs.holds.count_of.Goals.{then-is_some, else-is_some}
+use Rattle.ooo_fronts.proofs.holds.count_among.Goals as goal
+use Rattle.ooo_fronts.proofs.holds.count_among.Goals.{then-is_some, else-is_some}
 
 pub loop-b-init : goal.loop-b-init
 loop-b-init c =
     let a = c.args in
     let n = length a.tables.now.graph.segments in
-    let xs = c.clashing-clashing.result.now in
-    let all = clashing_are_all a.tables.now a.g a.p a.f xs c.requires.aligned c.clashing-clashing.ensures.exact c.clashing-clashing.ensures.ascending in
+    let xs = a.segments.now in
+    let all = c.requires.all in
     sym (counted_first (λ b. is_some (hold_at a.tables.now a.g a.p a.f b)) n xs all)
 
 pub hold_at-requires-clause-segment : goal.hold_at-requires-clause-segment
 hold_at-requires-clause-segment c =
     let a = c.args in
-    let xs = c.clashing-clashing.result.now in
-    let all = clashing_are_all a.tables.now a.g a.p a.f xs c.requires.aligned c.clashing-clashing.ensures.exact c.clashing-clashing.ensures.ascending in
+    let xs = a.segments.now in
+    let all = c.requires.all in
     all.within (get_or xs c.loop-b.b-index 0) (Contains-get_or xs c.loop-b.b-index 0 c.loop-b-test.true)
 
 pub overflow_add-count : goal.overflow_add-count
 overflow_add-count c =
     let a = c.args in
     let n = length a.tables.now.graph.segments in
-    let xs = c.clashing-clashing.result.now in
-    let all = clashing_are_all a.tables.now a.g a.p a.f xs c.requires.aligned c.clashing-clashing.ensures.exact c.clashing-clashing.ensures.ascending in
+    let xs = a.segments.now in
+    let all = c.requires.all in
     let lt = all.within (get_or xs c.loop-b.b-index n) (Contains-get_or xs c.loop-b.b-index n c.loop-b-test.true) in
     let few = count_at_most (λ b. is_some (hold_at a.tables.now a.g a.p a.f b)) (get_or xs c.loop-b.b-index n) in
     let aligned = c.requires.aligned.few in
@@ -42,10 +41,10 @@ loop-b-preserved c =
     let a = c.args in
     let t = a.tables.now in
     let n = length t.graph.segments in
-    let xs = c.clashing-clashing.result.now in
+    let xs = a.segments.now in
     let i = c.loop-b.b-index in
     let lt = c.loop-b-test.true in
-    let all = clashing_are_all t a.g a.p a.f xs c.requires.aligned c.clashing-clashing.ensures.exact c.clashing-clashing.ensures.ascending in
+    let all = c.requires.all in
     let test : ℕ → Bool = λ b. is_some (hold_at t a.g a.p a.f b) in
     let here = get_or_default xs i 0 n lt in
     let is : c.is_some.result ≡ test (get_or xs i n) = c.is_some.ensures ∙ ap (λ o. is_some o) c.hold_at.ensures ∙ ap test here in
@@ -63,6 +62,6 @@ unfolding holds_of
 returns c =
     let a = c.args in
     let n = length a.tables.now.graph.segments in
-    let xs = c.clashing-clashing.result.now in
-    let all = clashing_are_all a.tables.now a.g a.p a.f xs c.requires.aligned c.clashing-clashing.ensures.exact c.clashing-clashing.ensures.ascending in
+    let xs = a.segments.now in
+    let all = c.requires.all in
     c.loop-b.invariant ∙ counted_all (λ b. is_some (hold_at a.tables.now a.g a.p a.f b)) n xs all c.loop-b.b-index c.loop-b-test.false
