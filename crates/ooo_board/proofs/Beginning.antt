@@ -2,6 +2,7 @@
 use Rattle.std.proofs.Common.{◌≡◌, ℕ, zero, suc, ◌+◌, ◌<◌, ◌≤◌, ◌&&◌, ◌==◌, List, [], ◌∷◌, ◌++◌, Bool, true, false, Option, Some, None, length, get_or, map, replicate, if◌then◌else◌, refl, sym, ap, subst, ◌∙◌, arith, eq-eqb, ⊎_elim}
 use Rattle.std.specs.Prelude.{slice_get}
 use Rattle.std.specs.List.{position_or_len}
+use Rattle.std.proofs.lemmas.Bool.{eqb-true}
 use Rattle.std.proofs.lemmas.List.{get_or-map, get_or_past, length-append, length-map, length-replicate}
 use Rattle.std.proofs.lemmas.Option.{get_or_from_slice_get, slice_get_cases, slice_get_past}
 use Rattle.ooo_lemmas.proofs.Placed.{at_push, behind_at, replicated}
@@ -31,13 +32,14 @@ use Rattle.ooo_dispatch.specs.Schedules.{IsReady}
 use Rattle.ooo_dispatch.specs.Steps.{nothing_done}
 use Rattle.ooo_fronts.specs.declared.choice.State.{State}
 use Rattle.ooo_fronts.specs.declared.choice.State.TheVariants.{Abandoned, Running, Waiting as waits}
-use Rattle.ooo_fronts.specs.Fronts.{AreFit, AreFrontsOf, IsFit, kept_front, maybe_front}
+use Rattle.ooo_fronts.specs.Fronts.{AreFit, AreFrontsOf, IsFit, kept_front, maybe_front, process_in}
 use Rattle.ooo_board.specs.declared.cores.Core.{Core}
 use Rattle.ooo_board.specs.declared.process.Process.{Process}
 use Rattle.ooo_board.specs.declared.process.Waiting.{Waiting}
 use Rattle.ooo_board.specs.Boards.{is_running, running_in}
 use Rattle.ooo_board.specs.Cores.{AreProcesses, AreStatesAfter, AreVariables, HasCore, IsCore, IsProcess, IsStateOf, maybe_wait, wait_is}
 use Rattle.ooo_board.specs.Links.{begins_at}
+use Rattle.ooo_board.proofs.Leaving.{found}
 use Rattle.ooo_board.specs.Starting.{IsFirst, first_cells, first_front, front_at, timed_front}
 
 -- ---- first segments
@@ -161,6 +163,14 @@ unfired r (Some w) = ap (λ t. front_by w.segment (sooner (design (program (tabl
     at None = refl
     at (Some s) = refl
 
+-- a segment that begins at an entry of a process is of it
+own_by : (x : Segment) (p : ℕ) → begins_at p Start x ≡ true → x.process ≡ p
+own_by x p begins = at (x.process == p) refl begins
+  where
+    at : (b : Bool) → (x.process == p) ≡ b → (b && same_entry x.entry Start) ≡ true → x.process ≡ p
+    at true e h = eqb-true x.process p e
+    at false e h = absurd (let no : false ≡ true = h in cc)
+
 module _ (r : Rules) (processes : List Process) (are : AreProcesses r (nothing_done r).board processes) where
   pub first_fronts_are : AreFrontsOf r (nothing_done r).board (map first_front processes)
   first_fronts_are = record {
@@ -182,29 +192,41 @@ module _ (r : Rules) (processes : List Process) (are : AreProcesses r (nothing_d
           ∙ sym (ap maybe_front (get_or_past (map first_front processes) p None (omega arith)))
 
   -- each is of the first segment of its process, at time zero
-  pub first_fronts_fit : AreSegments r.design r.segments → AreFit (length r.segments) (map first_front processes)
-  first_fronts_fit segments p f is = by x.0.waiting x.2 (slice_get r.design.processes p) refl (are.each p x.0 x.1).waiting
+  pub first_fronts_fit : (t : Tables) → t.graph.segments ≡ r.segments → AreSegments r.design r.segments → AreFit t (map first_front processes)
+  first_fronts_fit t are_segments segments p f is = by x.0.waiting x.2 (slice_get r.design.processes p) refl (are.each p x.0 x.1).waiting
     where
       x : (x : Process) × (slice_get processes p ≡ Some x) × (first_front x ≡ Some f)
       x = from_map first_front processes p (Some f) is
+
+      -- the first segment at the start of a process is of that process
+      process_first : segment_at r p Start < length r.segments → process_in t (segment_at r p Start) ≡ p
+      process_first within =
+          let first = found (begins_at p Start) r.segments within in
+          let there : slice_get t.graph.segments (segment_at r p Start) ≡ Some first.0 = ap (λ ss. slice_get ss (segment_at r p Start)) are_segments ∙ first.1 in
+          ap (λ (o : Option Segment). elim o [ None ↦ 0 | Some y ↦ y.process ]) there ∙ own_by first.0 p first.2
 
       starts : (w : Waiting) (q : Proc) (s : Stamp) → w.timeout ≡ Some s → (b : Bool) → wait_is w ≡ wait_if b (segment_at r p Start) q.sensitive → (w.segment ≡ segment_at r p Start) × (s ≡ zero_stamp)
       starts w q s timed true same = (ap (λ (v : Wait Stamp). v.segment) same, some_same s zero_stamp (sym timed ∙ ap (λ (v : Wait Stamp). v.timeout) same))
       starts w q s timed false same = absurd (let none : Some s ≡ None = sym timed ∙ ap (λ (v : Wait Stamp). v.timeout) same in cc)
 
-      fits : (w : Waiting) (q : Proc) (s : Stamp) → w.timeout ≡ Some s → record { segment = w.segment; stamp = s } ≡ f → slice_get r.design.processes p ≡ Some q → wait_is w ≡ start_wait (segment_at r p Start) q → IsFit (length r.segments) f
+      fits : (w : Waiting) (q : Proc) (s : Stamp) → w.timeout ≡ Some s → record { segment = w.segment; stamp = s } ≡ f → slice_get r.design.processes p ≡ Some q → wait_is w ≡ start_wait (segment_at r p Start) q → IsFit t p f
       fits w q s timed front process same =
           let begins = has_start r.design r.segments segments p q process in
           let within = first_within (begins_at p Start) r.segments begins.number begins.segment begins.there begins.begins in
           let at = starts w q s timed q.initialize same in
-          let fit : IsFit (length r.segments) (record { segment = segment_at r p Start; stamp = zero_stamp }) = record { segment = within; time = omega arith; delta = omega arith } in
-          subst (IsFit (length r.segments)) front (subst (λ g. IsFit (length r.segments) (record { segment = g; stamp = s })) (sym at.0) (subst (λ t. IsFit (length r.segments) (record { segment = segment_at r p Start; stamp = t })) (sym at.1) fit))
+          let fit : IsFit t p (record { segment = segment_at r p Start; stamp = zero_stamp }) = record {
+            segment = subst (λ ss. segment_at r p Start < length ss) (sym are_segments) within;
+            process = process_first within;
+            time = omega arith;
+            delta = omega arith;
+          } in
+          subst (IsFit t p) front (subst (λ g. IsFit t p (record { segment = g; stamp = s })) (sym at.0) (subst (λ z. IsFit t p (record { segment = segment_at r p Start; stamp = z })) (sym at.1) fit))
 
-      timed : (w : Waiting) (t : Option Stamp) → w.timeout ≡ t → front_at w.segment t ≡ Some f → (q : Proc) → slice_get r.design.processes p ≡ Some q → wait_is w ≡ start_wait (segment_at r p Start) q → IsFit (length r.segments) f
+      timed : (w : Waiting) (at : Option Stamp) → w.timeout ≡ at → front_at w.segment at ≡ Some f → (q : Proc) → slice_get r.design.processes p ≡ Some q → wait_is w ≡ start_wait (segment_at r p Start) q → IsFit t p f
       timed w None h front q process same = absurd cc
       timed w (Some s) h front q process same = fits w q s h (some_same (record { segment = w.segment; stamp = s }) f front) process same
 
-      by : (o : Option Waiting) → timed_front o ≡ Some f → (a : Option Proc) → slice_get r.design.processes p ≡ a → maybe_wait o ≡ (elim a [ None ↦ None | Some q ↦ Some (start_wait (segment_at r p Start) q) ]) → IsFit (length r.segments) f
+      by : (o : Option Waiting) → timed_front o ≡ Some f → (a : Option Proc) → slice_get r.design.processes p ≡ a → maybe_wait o ≡ (elim a [ None ↦ None | Some q ↦ Some (start_wait (segment_at r p Start) q) ]) → IsFit t p f
       by None front a process same = absurd cc
       by (Some w) front None process same = absurd cc
       by (Some w) front (Some q) process same = timed w w.timeout refl front q process (some_same (wait_is w) (start_wait (segment_at r p Start) q) same)

@@ -166,7 +166,7 @@ module _ (design : Design) (limits : Limits) (t : Tables) (steps : List Step) (p
       has_states = states_after;
       has_fronts = fronts_after;
       has_counts = subst (λ (k : Kept). AreCounts t k.fronts k.counts) (sym went.fronts) core.has_counts;
-      fit = subst (λ (k : Kept). AreFit (length t.graph.segments) k.fronts) (sym went.fronts) core.fit;
+      fit = subst (λ (k : Kept). AreFit t k.fronts) (sym went.fronts) core.fit;
       has_cut = subst (IsCutOf r b.log) (sym went.cut) core.has_cut;
       has_pieces = went.pieces ∙ core.has_pieces;
       has_places = went.places ∙ core.has_places;

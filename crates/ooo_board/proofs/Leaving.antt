@@ -21,7 +21,8 @@ use Rattle.ooo_board.specs.Committing.{MayLeave, WaitsInTime}
 use Rattle.ooo_board.specs.Cores.{wait_is}
 use Rattle.ooo_board.specs.Links.{HasSegment, begins_at}
 
-found : {A : Type 0} (test : A → Bool) (xs : List A) → position_or_len test xs < length xs → (x : A) × (slice_get xs (position_or_len test xs) ≡ Some x) × (test x ≡ true)
+-- where a test passes within a list, the first that passes it is there
+pub found : {A : Type 0} (test : A → Bool) (xs : List A) → position_or_len test xs < length xs → (x : A) × (slice_get xs (position_or_len test xs) ≡ Some x) × (test x ≡ true)
 found test [] lt = absurd (omega arith)
 found test (x ∷ xs) lt = (get_or (x ∷ xs) (position_or_len test (x ∷ xs)) x, slice_get-get_or (x ∷ xs) (position_or_len test (x ∷ xs)) x lt, passes_at_first test (x ∷ xs) x lt)
 

@@ -3,18 +3,18 @@ use Rattle.std.proofs.Common.{◌≡◌, ◌≢◌, ℕ, ◌<◌, ◌≤◌, ◌
 use Rattle.std.specs.Prelude.{slice_get, slice_index_or, slice_set, All, IsSome}
 use Rattle.std.proofs.lemmas.Bool.{eqb-true}
 use Rattle.std.proofs.lemmas.List.{get_or-set_same, get_or-set_other, length-set}
-use Rattle.std.proofs.lemmas.Option.{slice_get-get_or, slice_get_within, get_or_from_slice_get}
+use Rattle.std.proofs.lemmas.Option.{slice_get-get_or, slice_get_cases, slice_get_within, get_or_from_slice_get}
 use Rattle.ooo_time.specs.declared.stamp.Stamp.{Stamp}
 use Rattle.ooo_schedules.specs.Model.{Act, front_of, last, running_or}
 use Rattle.ooo_tables.specs.declared.tables.Tables.{Tables}
 use Rattle.ooo_dispatch.specs.declared.reads.Reads.{Reads}
 use Rattle.ooo_dispatch.specs.Boards.{model}
-use Rattle.ooo_dispatch.specs.Rules.{Rules, has}
+use Rattle.ooo_dispatch.specs.Rules.{Rules, has, process_of}
 use Rattle.ooo_dispatch.specs.Steps.{Replay}
 use Rattle.ooo_fronts.specs.declared.choice.State.{State}
 use Rattle.ooo_fronts.specs.declared.choice.State.TheVariants.{Waiting, Running, Abandoned}
 use Rattle.ooo_fronts.specs.declared.front.Front as kept
-use Rattle.ooo_fronts.specs.Fronts.{AreFit, IsFit, front_is, kept_front, maybe_front}
+use Rattle.ooo_fronts.specs.Fronts.{AreFit, IsFit, front_is, kept_front, maybe_front, process_in}
 use Rattle.ooo_fronts.specs.Holds.{AreCounts}
 use Rattle.ooo_board.specs.declared.cores.Core.{Core}
 use Rattle.ooo_board.specs.declared.process.Process.{Process}
@@ -22,9 +22,20 @@ use Rattle.ooo_board.specs.Cores.{maybe_wait}
 use Rattle.ooo_code.specs.declared.activation.Effect.{Effect}
 use Rattle.ooo_code.specs.declared.activation.Effect.TheVariants as effect
 use Rattle.ooo_code.specs.declared.design.Design.{Design}
+use Rattle.ooo_code.specs.declared.segment.Segment.{Segment}
 use Rattle.ooo_value.specs.declared.values.Value.{Value}
 use Rattle.ooo_board.specs.declared.links.Links.{Links}
 use Rattle.ooo_board.specs.Waking.{EffectsReach, EventsReach, IsAmong, IsRight, IsThere, IsWaking, MayAskFront, MayWake, Reaches, ReachesAll, Woken, front_told}
+
+-- a segment is of the process that the rules say
+process_same : (r : Rules) (t : Tables) → t.graph.segments ≡ r.segments → (g : ℕ) → g < length t.graph.segments → process_in t g ≡ process_of r g
+process_same r t same g lt = ⊎_elim (λ there. is there.0 there.2) (λ past. let le = past.0 in absurd (omega arith)) (slice_get_cases t.graph.segments g).1
+  where
+    is : (x : Segment) → slice_get t.graph.segments g ≡ Some x → process_in t g ≡ process_of r g
+    is x there =
+        let rule : process_of r g ≡ x.process =
+        ap (λ (o : Option Segment). elim o [ None ↦ length r.design.processes | Some y ↦ y.process ]) (ap (λ ss. slice_get ss g) (sym same) ∙ there) in
+        ap (λ (o : Option Segment). elim o [ None ↦ 0 | Some y ↦ y.process ]) there ∙ sym rule
 
 module _ (r : Rules) (t : Tables) (s : Replay r) where
   -- ---- none, and one after the other
@@ -75,18 +86,20 @@ module _ (r : Rules) (t : Tables) (s : Replay r) where
             ap (λ o. running_or o ((model r).front s.board.log q)) (waking.has_states.each q Waiting idle)
             ∙ ap (front_told r s.board) (sym (waking.has_processes.each q x at).waiting) ∙ sym told
 
-        pub fits : (f : kept.Front) → front ≡ Some f → IsFit (length t.graph.segments) f
+        pub fits : (f : kept.Front) → front ≡ Some f → IsFit t q f
         fits f e =
             let reach = waking.in_reach q (front_is f) (is_front ∙ ap maybe_front e) in
             let low = reach.delta in
             let limit = waking.deltas in
+            let segment : f.segment < length t.graph.segments = subst (λ ss. f.segment < length ss) (sym waking.segments) reach.segment in
             record {
-              segment = subst (λ ss. f.segment < length ss) (sym waking.segments) reach.segment;
+              segment = segment;
+              process = process_same r t waking.segments f.segment segment ∙ reach.process;
               time = reach.time;
               delta = omega arith;
             }
 
-        module _ (d : Core) (others : d ≡ record c { fronts = d.fronts }) (set : d.fronts.fronts ≡ slice_set c.fronts.fronts q front) (fit : AreFit (length t.graph.segments) d.fronts.fronts) (counts : AreCounts t d.fronts.fronts d.fronts.counts) (within : q < length c.fronts.fronts) where
+        module _ (d : Core) (others : d ≡ record c { fronts = d.fronts }) (set : d.fronts.fronts ≡ slice_set c.fronts.fronts q front) (fit : AreFit t d.fronts.fronts) (counts : AreCounts t d.fronts.fronts d.fronts.counts) (within : q < length c.fronts.fronts) where
           now_right : (y : ℕ) → y ≡ q → IsRight r s.board d.fronts.fronts y
           now_right y e =
               let here : kept_front d.fronts.fronts q ≡ maybe_front front = ap (λ fs. kept_front fs q) set ∙ ap maybe_front (get_or-set_same c.fronts.fronts q front None within) in

@@ -498,7 +498,7 @@ module _ (design : Design) (limits : Limits) (t : Tables) (s : Replay (rules_of 
     deltas = deltas;
     aligned = keep.aligned;
     counts = subst (λ f. AreCounts t f.fronts f.counts) (sym takes.fronts) core.has_counts;
-    fit = subst (λ f. AreFit (length t.graph.segments) f.fronts) (sym takes.fronts) core.fit;
+    fit = subst (λ f. AreFit t f.fronts) (sym takes.fronts) core.fit;
   }
 
   pub effects_there : (fs : List Effect) → fs ≡ done.emitted.effects.items → All (IsThere design) fs

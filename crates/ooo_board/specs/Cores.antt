@@ -104,7 +104,7 @@ pub record IsCore (design : Design) (limits : Limits) (t : Tables) (s : Replay (
   pub has_states : AreStatesAfter (rules_of design limits t) s c.states.items
   pub has_fronts : AreFrontsOf (rules_of design limits t) s.board c.fronts.fronts
   pub has_counts : AreCounts t c.fronts.fronts c.fronts.counts
-  pub fit : AreFit (length t.graph.segments) c.fronts.fronts
+  pub fit : AreFit t c.fronts.fronts
   pub has_cut : IsCutOf (rules_of design limits t) s.board.log c.cut
   pub has_pieces : c.pieces.items ≡ pieces_in (rules_of design limits t) s.board.log
   pub has_places : c.places.items ≡ places_in s.board.log

@@ -62,7 +62,7 @@ pub record IsWaking (r : Rules) (t : Tables) (s : Replay r) (c : Core) : Type 0 
   pub deltas : r.limits.deltas ≤ greatest_delta
   pub aligned : AreAligned t
   pub counts : AreCounts t c.fronts.fronts c.fronts.counts
-  pub fit : AreFit (length t.graph.segments) c.fronts.fronts
+  pub fit : AreFit t c.fronts.fronts
 
 -- so it is, with the look-ups
 pub record MayWake (r : Rules) (t : Tables) (s : Replay r) (l : Links) (c : Core) : Type 0 where

@@ -102,13 +102,12 @@ impl Core {
     fn give(&mut self, tables: &Tables, q: u32, front: Option<Front>)
         requires aligned { AreAligned tables.now }
         requires within { q < length self.old.fronts.fronts }
-        requires new { (f : FrontSpec) → front ≡ Some f →
-            IsFit (length tables.now.graph.segments) f }
-        requires fit { AreFit (length tables.now.graph.segments) self.old.fronts.fronts }
+        requires new { (f : FrontSpec) → front ≡ Some f → IsFit tables.now q f }
+        requires fit { AreFit tables.now self.old.fronts.fronts }
         requires counts { AreCounts tables.now self.old.fronts.fronts self.old.fronts.counts }
         ensures others { self.new ≡ record self.old { fronts = self.new.fronts } }
         ensures fronts { self.new.fronts.fronts ≡ slice_set self.old.fronts.fronts q front }
-        ensures fit { AreFit (length tables.now.graph.segments) self.new.fronts.fronts }
+        ensures fit { AreFit tables.now self.new.fronts.fronts }
         ensures counts { AreCounts tables.now self.new.fronts.fronts self.new.fronts.counts }
     {
         if are_same(front, self.fronts.front(q)) {

@@ -23,7 +23,7 @@ make-requires-2-clause-fit c =
     let r = rules_of c.args.design.now c.args.limits.now c.args.tables.now in
     let processes = c.in_ok-processes.processes.items in
     let fronts_are : c.in_ok-fronts.fronts.items ≡ map first_front processes = c.in_ok-fronts.ensures ∙ ap (map first_front) c.as_slice.ensures.value in
-    subst (AreFit (length r.segments)) (sym fronts_are) (first_fronts_fit r processes (c.in_ok-processes.ensures c.args.limits.now) c.requires.tables.segments)
+    subst (AreFit c.args.tables.now) (sym fronts_are) (first_fronts_fit r processes (c.in_ok-processes.ensures c.args.limits.now) c.args.tables.now refl c.requires.tables.segments)
 
 pub returns : goal.returns
 returns c =
@@ -41,7 +41,7 @@ returns c =
       has_states = first_states_are r (length processes) c.in_ok-vec.field-0.items are.counted states_are;
       has_fronts = subst (AreFrontsOf r (nothing_done r).board) (sym fronts_are) (first_fronts_are r processes are);
       has_counts = c.in_ok-make-2.ensures.counts;
-      fit = subst (AreFit (length r.segments)) (sym fronts_are) (first_fronts_fit r processes are c.requires.tables.segments);
+      fit = subst (AreFit c.args.tables.now) (sym fronts_are) (first_fronts_fit r processes are c.args.tables.now refl c.requires.tables.segments);
       has_cut = c.new.ensures r refl;
       has_pieces = c.new-2.ensures.items;
       has_places = c.new-3.ensures.items;
