@@ -13,6 +13,7 @@ use Rattle.ooo_access.specs.declared.access.Access.{Access}
 use Rattle.ooo_tables.specs.declared.tables.Tables.{Tables}
 use Rattle.ooo_tables.specs.Tables.{AreTables}
 use Rattle.ooo_dispatch.specs.Rules.{has, same_entry}
+use Rattle.ooo_fronts.specs.Reaching.{AreReaches}
 use Rattle.ooo_board.specs.declared.links.Links.{Links}
 use Rattle.ooo_board.specs.declared.links.Watched.{Watched}
 
@@ -99,6 +100,7 @@ pub record AreLinks (design : Design) (t : Tables) (l : Links) : Type 0 where
   pub waiters : AreWaiters design (length t.graph.segments) t.graph.segments t.access l.waiters.items
   pub channel_events : AreChannelEvents design (length design.events) l.channel_events.items
   pub starts : AreStarts design 0 t.graph.segments l.starts.items
+  pub reaches : AreReaches t l.reaches
 
 -- the look-ups are those of a design with its tables, which has these segments, and some segment of process p begins at an entry
 pub record HasSegment (l : Links) (segments : List Segment) (p : ℕ) (entry : SegmentEntry) : Type 0 where

@@ -66,7 +66,7 @@ impl Core {
         let waiting = waiting_after(tables, links, process, entry, end, at);
         self.processes[process as usize].leave(slots, waiting);
         self.states[process as usize] = State::Waiting;
-        self.refresh(tables, process);
+        self.refresh(tables, links, process);
         self.wake(tables, links, effects);
     }
 }

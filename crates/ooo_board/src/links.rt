@@ -1,5 +1,5 @@
-//! What is looked up at each step, made once of the tables: what a segment sees and only reads, who may wait on an event, and
-//! where a process's segments begin.
+//! What is looked up at each step, made once of the tables: what a segment sees and only reads, who may wait on an event,
+//! where a process's segments begin, and which processes a front can hold up.
 
 ghost use Rattle.std.specs.Prelude.{◌≡◌, ◌≢◌, ◌<◌, ◌≤◌, ◌+◌, ◌++◌, [], ◌∷◌, length, map, replicate, false, if◌then◌else◌, Some, IfOk, OnOk, MatchOption, IsTrue, All, Contains, slice_get};
 ghost use Rattle.ooo_value.specs.declared.bound.BoundEvent.TheVariants as own;
@@ -19,6 +19,7 @@ ghost use Rattle.ooo_board.specs.Links.{AreChannelEvents, AreLinks, AreStarts, A
 
 use ooo_access::Access;
 use ooo_code::{Design, Segment, SegmentEntry};
+use ooo_fronts::Reaches;
 use ooo_tables::Tables;
 use ooo_value::{BoundEvent, ChannelKind};
 use sqlite_items::Items;
@@ -45,6 +46,8 @@ pub(crate) struct Links {
     pub(crate) channel_events: Vec<Items<u32>>,
     /// Of each process, its first segment.
     pub(crate) starts: Vec<u32>,
+    /// Of each segment, the processes that a front of it can hold up.
+    pub(crate) reaches: Reaches,
 }
 
 impl Links {
@@ -60,6 +63,7 @@ impl Links {
         requires waits { WaitsOnEvents design.now tables.now.access }
         ensures { IfOk result (AreLinks design.now tables.now) }
     {
+        ooo_fronts::law::tables_are_aligned();
         let access = tables.access.as_slice();
         let segments = tables.graph.segments.as_slice();
         Ok(Links {
@@ -68,6 +72,7 @@ impl Links {
             waiters: all_waiters(alloc, design, segments, access)?,
             channel_events: all_channel_events(alloc, design)?,
             starts: all_starts(alloc, design, segments)?,
+            reaches: Reaches::make(alloc, tables)?,
         })
     }
 

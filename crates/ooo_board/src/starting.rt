@@ -48,7 +48,7 @@ impl Core {
             variables: first_variables(alloc, design.variables.as_slice())?,
             states: vec![in alloc; State::Waiting; processes.len()]?,
             processes,
-            fronts: Fronts::make(alloc, tables, fronts)?,
+            fronts: Fronts::make(alloc, tables, &links.reaches, fronts)?,
             cut: Cut::new(limits),
             pieces: Vec::new(alloc),
             places: Vec::new(alloc),

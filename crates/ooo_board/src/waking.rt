@@ -12,8 +12,9 @@ ghost use Rattle.ooo_dispatch.specs.Steps.{Replay};
 ghost use Rattle.ooo_fronts.specs.declared.front.Front.{Front as FrontSpec};
 ghost use Rattle.ooo_fronts.specs.Fronts.{AreAligned, AreFit, IsFit, maybe_front};
 ghost use Rattle.ooo_fronts.specs.Holds.{AreCounts};
+ghost use Rattle.ooo_fronts.specs.Reaching.{AreReaches};
 ghost use Rattle.ooo_board.specs.Cores.{maybe_wait};
-ghost use Rattle.ooo_board.specs.Waking.{IsAsked, IsThere, IsWaking, MayAskFront, MayWake, Woken, EffectsReach, EventsReach, Reaches, ReachesAll, front_told};
+ghost use Rattle.ooo_board.specs.Waking.{IsAsked, IsThere, MayAskFront, MayWake, Woken, EffectsReach, EventsReach, Reaches, ReachesAll, front_told};
 
 use crate::cores::Core;
 use crate::links::Links;
@@ -80,27 +81,28 @@ impl Core {
     {
         let waiters = links.waiters[e as usize].as_slice();
         for q in waiters {
-            self.refresh(tables, *q);
+            self.refresh(tables, links, *q);
         }
     }
 
     /// A process has the front that the bank tells, if it waits.
-    pub(crate) fn refresh(&mut self, tables: &Tables, q: u32)
+    pub(crate) fn refresh(&mut self, tables: &Tables, links: &Links, q: u32)
         requires within { q < length self.old.processes.items }
-        requires waking { (r : Rules) × (s : Replay r) × IsWaking r tables.now s self.old }
-        ensures { (r : Rules) (s : Replay r) → IsWaking r tables.now s self.old →
+        requires waking { (r : Rules) × (s : Replay r) × MayWake r tables.now s links.now self.old }
+        ensures { (r : Rules) (s : Replay r) → MayWake r tables.now s links.now self.old →
             Woken r tables.now s (λ x. x ≡ q) self.old self.new }
     {
         let State::Waiting = self.states[q as usize] else {
             return;
         };
         let front = front_by(&self.bank, &self.processes[q as usize].waiting);
-        self.give(tables, q, front);
+        self.give(tables, links, q, front);
     }
 
     // Gives a process a front, if it has another one.
-    fn give(&mut self, tables: &Tables, q: u32, front: Option<Front>)
+    fn give(&mut self, tables: &Tables, links: &Links, q: u32, front: Option<Front>)
         requires aligned { AreAligned tables.now }
+        requires reaches { AreReaches tables.now links.now.reaches }
         requires within { q < length self.old.fronts.fronts }
         requires new { (f : FrontSpec) → front ≡ Some f → IsFit tables.now q f }
         requires fit { AreFit tables.now self.old.fronts.fronts }
@@ -113,7 +115,7 @@ impl Core {
         if are_same(front, self.fronts.front(q)) {
             return;
         }
-        self.fronts.set(tables, q, front);
+        self.fronts.set(tables, &links.reaches, q, front);
     }
 }
 

@@ -169,7 +169,7 @@ refresh-requires-clause-waking c =
       pieces = c.print.ensures;
       places = c.push_reserved.ensures.items;
     } in
-    (r, once_committed r s job, waking design limits c.args.tables.now s c.args.done.process job keep c.args.done may.gives.is_done c.args.at may.stamp c.args.self.now may.has.core may.has.stands.deltas c1 c.index_mut.result.now c.leave.new.self takes)
+    (r, once_committed r s job, record { waking = waking design limits c.args.tables.now s c.args.done.process job keep c.args.done may.gives.is_done c.args.at may.stamp c.args.self.now may.has.core may.has.stands.deltas c1 c.index_mut.result.now c.leave.new.self takes; links = links })
 
 pub wake-requires : goal.wake-requires
 wake-requires c =
@@ -207,7 +207,7 @@ wake-requires c =
       pieces = c.print.ensures;
       places = c.push_reserved.ensures.items;
     } in
-    let first = c.refresh.ensures r (once_committed r s job) (waking design limits c.args.tables.now s c.args.done.process job keep c.args.done may.gives.is_done c.args.at may.stamp c.args.self.now may.has.core may.has.stands.deltas c1 c.index_mut.result.now c.leave.new.self takes) in
+    let first = c.refresh.ensures r (once_committed r s job) (record { waking = waking design limits c.args.tables.now s c.args.done.process job keep c.args.done may.gives.is_done c.args.at may.stamp c.args.self.now may.has.core may.has.stands.deltas c1 c.index_mut.result.now c.leave.new.self takes; links = links }) in
     let may_wake : MayWake r c.args.tables.now (once_committed r s job) c.args.links.now c.refresh.new.self = record { waking = first.waking; links = links } in
     record { there = (r, once_committed r s job, may_wake, effects_there design limits c.args.tables.now s c.args.done.process job keep c.args.done may.gives.is_done c.args.at may.stamp c.args.self.now may.has.core may.has.stands.deltas c1 c.index_mut.result.now c.leave.new.self takes c.as_slice-effects.result.now c.as_slice-effects.ensures.value) }
 
@@ -241,7 +241,7 @@ returns c = λ design limits steps links may.
       pieces = c.print.ensures;
       places = c.push_reserved.ensures.items;
     } in
-    let first = c.refresh.ensures r (once_committed r s job) (waking design limits c.args.tables.now s c.args.done.process job keep c.args.done may.gives.is_done c.args.at may.stamp c.args.self.now may.has.core may.has.stands.deltas c1 c.index_mut.result.now c.leave.new.self takes) in
+    let first = c.refresh.ensures r (once_committed r s job) (record { waking = waking design limits c.args.tables.now s c.args.done.process job keep c.args.done may.gives.is_done c.args.at may.stamp c.args.self.now may.has.core may.has.stands.deltas c1 c.index_mut.result.now c.leave.new.self takes; links = links }) in
     let may_wake : MayWake r c.args.tables.now (once_committed r s job) c.args.links.now c.refresh.new.self = record { waking = first.waking; links = links } in
     let there = effects_there design limits c.args.tables.now s c.args.done.process job keep c.args.done may.gives.is_done c.args.at may.stamp c.args.self.now may.has.core may.has.stands.deltas c1 c.index_mut.result.now c.leave.new.self takes c.as_slice-effects.result.now c.as_slice-effects.ensures.value in
     let second = c.wake.ensures r (once_committed r s job) may_wake there in

@@ -4,7 +4,8 @@ use Rattle.ooo_board.specs.Waking.{IsRight}
 use Rattle.ooo_board.proofs.cores.Core.refresh.Goals as goal
 
 pub returns-in_default : goal.returns-in_default
-returns-in_default c = λ r s waking.
+returns-in_default c = λ r s may_wake.
+    let waking = may_wake.waking in
     let states = waking.has_states.counted in
     let processes = waking.has_processes.counted in
     let within = c.requires.within in
@@ -15,22 +16,25 @@ returns-in_default c = λ r s waking.
 pub front_by-front-requires : goal.front_by-front-requires
 front_by-front-requires c =
     let w = c.requires.waking in
+    let waking = w.2.waking in
     let at = stands c.args.self.now.processes.items c.args.q c.index-2.result.now c.requires.within c.index-2.ensures in
-    (w.0, w.1.board, may_ask_front w.0 c.args.tables.now w.1 c.args.self.now c.args.q w.2 c.index-2.result.now at)
+    (w.0, w.1.board, may_ask_front w.0 c.args.tables.now w.1 c.args.self.now c.args.q waking c.index-2.result.now at)
 
 pub give-requires-clause-new : goal.give-requires-clause-new
 give-requires-clause-new c =
     let w = c.requires.waking in
-    let states = w.2.has_states.counted in
-    let processes = w.2.has_processes.counted in
+    let waking = w.2.waking in
+    let states = waking.has_states.counted in
+    let processes = waking.has_processes.counted in
     let within = c.requires.within in
     let waits = stands c.args.self.now.states.items c.args.q c.index.result.now (omega arith) c.index.ensures ∙ ap Some c.in-Waiting.is in
     let at = stands c.args.self.now.processes.items c.args.q c.index-2.result.now c.requires.within c.index-2.ensures in
-    let may = may_ask_front w.0 c.args.tables.now w.1 c.args.self.now c.args.q w.2 c.index-2.result.now at in
-    fits w.0 c.args.tables.now w.1 c.args.self.now c.args.q w.2 c.index-2.result.now at waits c.front_by-front.result (c.front_by-front.ensures w.0 w.1.board may)
+    let may = may_ask_front w.0 c.args.tables.now w.1 c.args.self.now c.args.q waking c.index-2.result.now at in
+    fits w.0 c.args.tables.now w.1 c.args.self.now c.args.q waking c.index-2.result.now at waits c.front_by-front.result (c.front_by-front.ensures w.0 w.1.board may)
 
 pub returns : goal.returns
-returns c = λ r s waking.
+returns c = λ r s may_wake.
+    let waking = may_wake.waking in
     let states = waking.has_states.counted in
     let processes = waking.has_processes.counted in
     let fronts = waking.count in

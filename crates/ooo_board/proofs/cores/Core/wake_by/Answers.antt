@@ -21,7 +21,7 @@ refresh-requires c =
     let are : c.as_slice-waiters.result.now ≡ slice_index_or c.args.links.now.waiters.items c.args.e [] = c.as_slice-waiters.ensures ∙ c.index.ensures ∙ get_or_default c.args.links.now.waiters.items c.args.e c.index.result.now [] within in
     record {
       within = waiter_there c.args.links.now w.0 c.args.tables.now w.1 c.loop-q.self now c.args.e c.loop-q.q-index c.as_slice-waiters.result.now are c.loop-q-test.true;
-      waking = (w.0, w.1, old.waking);
+      waking = (w.0, w.1, now);
     }
 
 pub loop-q-preserved : goal.loop-q-preserved
@@ -29,7 +29,7 @@ loop-q-preserved c = λ r s may lt.
     let old = c.loop-q.invariant r s may lt in
     let waiters = c.as_slice-waiters.result.now in
     woken_then r c.args.tables.now s (λ q. IsAmong waiters c.loop-q.q-index q) (λ q. q ≡ get_or waiters c.loop-q.q-index 0) (λ q. IsAmong waiters (c.loop-q.q-index + 1) q) c.args.self.now c.loop-q.self c.refresh.new.self
-    (among_more waiters c.loop-q.q-index) old (c.refresh.ensures r s old.waking)
+    (among_more waiters c.loop-q.q-index) old (c.refresh.ensures r s (may_on c.args.links.now r c.args.tables.now s (λ q. IsAmong waiters c.loop-q.q-index q) c.args.self.now c.loop-q.self may old))
 
 pub returns : goal.returns
 returns c = λ r s may lt.

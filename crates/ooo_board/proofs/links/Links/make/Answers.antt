@@ -24,4 +24,5 @@ returns c =
           (subst (λ xs. AreWaiters design (length xs) xs c.as_slice-access.result.now c.in_ok-all_waiters.field-0.items) c.as_slice-segments.ensures c.in_ok-all_waiters.ensures);
       channel_events = c.in_ok-all_channel_events.ensures;
       starts = subst (λ xs. AreStarts design 0 xs c.in_ok-all_starts.field-0.items) c.as_slice-segments.ensures c.in_ok-all_starts.ensures;
+      reaches = c.in_ok-make.ensures;
     }
