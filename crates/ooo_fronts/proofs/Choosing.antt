@@ -1,10 +1,10 @@
 -- Who may run, process by process.
-use Rattle.std.proofs.Common.{◌≡◌, ◌≢◌, ◌↔◌, Bool, IsTrue, IfSome, ℕ, ◌+◌, ◌<◌, ⊎_elim, List, length, Option, Some, None, sym, ap, ◌∙◌, subst, arith, slice_index_or}
+use Rattle.std.proofs.Common.{◌≡◌, ◌≢◌, ◌↔◌, Bool, IsTrue, IfSome, ℕ, ◌+◌, ◌<◌, inl, inr, ⊎_elim, List, length, Option, Some, None, refl, sym, ap, ◌∙◌, subst, arith, slice_index_or}
 use Rattle.std.proofs.lemmas.Bool.{cases_eq, cases_lt, cases_order}
 use Rattle.std.proofs.lemmas.List.{get_or_past}
 use Rattle.ooo_time.specs.declared.stamp.Stamp.{Stamp}
 use Rattle.ooo_time.specs.declared.stamp.Place.{Place}
-use Rattle.ooo_time.specs.Stamps.{ComesBefore}
+use Rattle.ooo_time.specs.Stamps.{IsBefore, ComesBefore}
 use Rattle.ooo_meaning.specs.World.{place_of}
 use Rattle.ooo_schedules.specs.Model as board
 use Rattle.ooo_dispatch.specs.Boards.{Board, IsFront, model}
@@ -13,9 +13,10 @@ use Rattle.ooo_dispatch.specs.Rules.{Rules}
 use Rattle.ooo_dispatch.specs.Schedules.{NoDeadEnd}
 use Rattle.ooo_dispatch.specs.Steps.{Replay}
 use Rattle.ooo_fronts.specs.declared.choice.Choice.{Choice}
+use Rattle.ooo_fronts.specs.declared.choice.State.TheVariants.{Waiting}
 use Rattle.ooo_fronts.specs.declared.front.Front.{Front}
 use Rattle.ooo_fronts.specs.Fronts.{AreFrontsOf, front_is, maybe_front}
-use Rattle.ooo_fronts.specs.Choices.{AllBelowLimit, IsBelowLimit, IsChoiceOf, IsEarlierOf, IsPick, IsReady, IsReadyAt, MayRunNow, PicksLeast}
+use Rattle.ooo_fronts.specs.Choices.{AllBelowLimit, IsBelowLimit, IsBest, IsBestBelow, IsChoiceOf, IsEarlierOf, IsPick, IsReady, IsReadyAt, MayRunNow, PicksLeast}
 use Rattle.ooo_fronts.proofs.Below.{below_before}
 use Rattle.ooo_fronts.proofs.Earliest.{earliest, least_on_board}
 use Rattle.ooo_fronts.proofs.Leasts.{least_below, not_at_limit, some_is, some_least}
@@ -44,23 +45,20 @@ all_below r least b choice k all q g i =
     subst (λ d. g.stamp.delta < d) k.cut.deltas (subst (λ (y : board.Front Stamp). y.stamp.delta < choice.cut.now.deltas) x.2 (all q x.0 x.1))
 
 -- the front of one process more
+pub below_none : (choice : Choice) (p : ℕ) → slice_index_or choice.fronts.now p None ≡ None → IsBelowLimit choice p
+below_none choice p none f own = let both : None ≡ Some f = sym none ∙ own in absurd cc
+
+pub below_some : (choice : Choice) (p : ℕ) (f : Front) → slice_index_or choice.fronts.now p None ≡ Some f → f.stamp.delta < choice.cut.now.deltas → IsBelowLimit choice p
+below_some choice p f own limit g is =
+    let both : Some f ≡ Some g = sym own ∙ is in
+    let same : f ≡ g = cc in
+    subst (λ (x : Front). x.stamp.delta < choice.cut.now.deltas) same limit
+
 pub below_more : (choice : Choice) (n : ℕ) → ((q : ℕ) → q < n → IsBelowLimit choice q) → IsBelowLimit choice n → (q : ℕ) → q < n + 1 → IsBelowLimit choice q
 below_more choice n all one q k =
     ⊎_elim (λ e. subst (IsBelowLimit choice) (sym e) one) (λ d. all q (⊎_elim (λ x. x) (λ x. absurd (d (omega (arith, x, k)))) (cases_lt q n))) (cases_eq q n)
 
 -- ---- the best of those so far
-
--- of the processes below n that may run but for the cut, the one at this place comes first
-pub record IsBest (r : Rules) (least : Advance) (b : Board r) (n : ℕ) (at : Place) : Type 0 where
-  pub front : board.Front Stamp
-  pub ready : IsReady r least b at.process front
-  pub place : at ≡ place_of front.stamp at.process
-  pub below : at.process < n
-  pub first : (q : ℕ) (g : board.Front Stamp) → q < n → q ≢ at.process → IsReady r least b q g → ComesBefore at (place_of g.stamp q)
-
-abbrev pub IsBestBelow : (r : Rules) → Advance → Board r → (n : ℕ) → Option Place → Type 0
-IsBestBelow r least b n None = (q : ℕ) (g : board.Front Stamp) → q < n → IsReady r least b q g → ⊥
-IsBestBelow r least b n (Some at) = IsBest r least b n at
 
 module _ (r : Rules) (least : Advance) (b : Board r) (n : ℕ) where
   under : (q : ℕ) → q < n + 1 → q ≢ n → q < n
@@ -107,14 +105,54 @@ module _ (r : Rules) (least : Advance) (b : Board r) (n : ℕ) where
       subst (ComesBefore at) z
       (⊎_elim (λ y. y) (λ y. ⊎_elim (λ v. let p : other.process ≡ n = ap (λ t. t.process) z in let u = v.1 in let l = h.below in absurd (omega (arith, p, u, l))) (λ v. absurd (x.0 v)) y) (compare_places at other))))) e
 
--- the earlier place is of one of the processes so far
-pub within_more : (n : ℕ) (best ready next : Option Place) → IsEarlierOf best ready next → IfSome best (λ at. at.process < n) → IfSome ready (λ at. at.process ≡ n) → IfSome next (λ at. at.process < n + 1)
-within_more n None None next e h k = subst (λ x. IfSome x (λ at. at.process < n + 1)) (sym e) tt
-within_more n None (Some at) next e h k = subst (λ x. IfSome x (λ at. at.process < n + 1)) (sym e) (omega (arith, k))
-within_more n (Some at) None next e h k = subst (λ x. IfSome x (λ at. at.process < n + 1)) (sym e) (omega (arith, h))
-within_more n (Some at) (Some other) next e h k =
-    ⊎_elim (λ x. subst (λ x. IfSome x (λ at. at.process < n + 1)) (sym x.1) (omega (arith, k)))
-    (λ x. subst (λ x. IfSome x (λ at. at.process < n + 1)) (sym x.1) (omega (arith, h))) e
+-- a place that is at an earlier stamp is the earlier one
+pub taken : (best : Option Place) (at : Place) → IfSome best (λ x. IsBefore at.stamp x.stamp) → IsEarlierOf best (Some at) (Some at)
+taken None at h = refl
+taken (Some x) at h = inl (inl h, refl)
+
+-- and one of a later process at a stamp that isn't, is not
+pub not_taken : (best : Option Place) (at : Place) → IfSome best (λ x. x.process < at.process) → (IfSome best (λ x. IsBefore at.stamp x.stamp) → ⊥) → IsEarlierOf best (Some at) best
+not_taken None at p n = absurd (n tt)
+not_taken (Some x) at p n = inr (λ h. ⊎_elim n (λ y. let l = y.1 in absurd (omega (arith, l, p))) h, refl)
+
+pub none_taken : (best : Option Place) → IsEarlierOf best None best
+none_taken None = refl
+none_taken (Some x) = refl
+
+pub still_within : (n : ℕ) (best : Option Place) → IfSome best (λ x. x.process < n) → IfSome best (λ x. x.process < n + 1)
+still_within n None h = tt
+still_within n (Some x) h = omega (arith, h)
+
+-- ---- which process may run but for the cut
+
+module _ (r : Rules) (least : Advance) (b : Board r) (choice : Choice) (k : IsChoiceOf r least b choice) (p : ℕ) where
+  pub ready_place : (f : Front) → slice_index_or choice.fronts.now p None ≡ Some f → p < length choice.states.now → f.stamp.delta < choice.cut.now.deltas →
+      slice_index_or choice.states.now p Waiting ≡ Waiting → slice_index_or choice.held.now p 0 ≡ 0 → IsReadyAt r least b p (Some (record { stamp = f.stamp; process = p }))
+  ready_place f own in_range limit waits free =
+      let i = has_front r b choice.fronts.now k.fronts p f own in (
+        front_is f,
+        record {
+          idle = (k.states.each p in_range).0 waits;
+          front = i;
+          below_limit = subst (λ d. f.stamp.delta < d) k.cut.deltas limit;
+          free = λ q g d j. (k.held p (front_is f) (sym (k.fronts.each p) ∙ i)).0 free q g d (sym (k.fronts.each q) ∙ j);
+        },
+        refl,
+      )
+
+  pub unready_state : p < length choice.states.now → (slice_index_or choice.states.now p Waiting ≡ Waiting → ⊥) → IsReadyAt r least b p None
+  unready_state in_range n g m = n ((k.states.each p in_range).1 m.idle)
+
+  pub unready_held : (slice_index_or choice.held.now p 0 ≡ 0 → ⊥) → IsReadyAt r least b p None
+  unready_held n g m = n ((k.held p g (sym (k.fronts.each p) ∙ m.front)).1 (λ q h d j. m.free q h d (k.fronts.each q ∙ j)))
+
+  pub unready_limit : (f : Front) → slice_index_or choice.fronts.now p None ≡ Some f → (f.stamp.delta < choice.cut.now.deltas → ⊥) → IsReadyAt r least b p None
+  unready_limit f own n g m =
+      let same = same_front r b choice.fronts.now k.fronts p f g own m.front in
+      n (subst (λ d. f.stamp.delta < d) (sym k.cut.deltas) (subst (λ (x : board.Front Stamp). x.stamp.delta < r.limits.deltas) same m.below_limit))
+
+  pub unready_none : slice_index_or choice.fronts.now p None ≡ None → IsReadyAt r least b p None
+  unready_none none g m = absurd (no_front r b choice.fronts.now k.fronts p g none m.front)
 
 -- who may run may do so but for the cut
 ready_where : (r : Rules) (least : Advance) (b : Board r) (p : ℕ) (f : board.Front Stamp) → MayRun r least b p f → IsReady r least b p f

@@ -69,6 +69,18 @@ IsPick r least b (Some p) =
     (f : Front Stamp) × MayRun r least b p f
     × ((q : ℕ) (g : Front Stamp) → q ≢ p → MayRun r least b q g → ComesBefore (place_of f.stamp p) (place_of g.stamp q))
 
+-- of the processes below n that may run but for the cut, the one at this place comes first
+pub record IsBest (r : Rules) (least : Advance) (b : Board r) (n : ℕ) (at : Place) : Type 0 where
+  pub front : Front Stamp
+  pub ready : IsReady r least b at.process front
+  pub place : at ≡ place_of front.stamp at.process
+  pub below : at.process < n
+  pub first : (q : ℕ) (g : Front Stamp) → q < n → q ≢ at.process → IsReady r least b q g → ComesBefore at (place_of g.stamp q)
+
+abbrev pub IsBestBelow : (r : Rules) → Advance → Board r → (n : ℕ) → Option Place → Type 0
+IsBestBelow r least b n None = (q : ℕ) (g : Front Stamp) → q < n → IsReady r least b q g → ⊥
+IsBestBelow r least b n (Some at) = IsBest r least b n at
+
 -- the earlier of two places, of those that there are: the first, where the second isn't before it
 abbrev pub IsEarlierOf : Option Place → Option Place → Option Place → Type 0
 IsEarlierOf None other result = result ≡ other

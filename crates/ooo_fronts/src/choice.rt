@@ -1,9 +1,10 @@
-ghost use Rattle.std.specs.Prelude.{◌≡◌, ◌≤◌, ◌<◌, ◌↔◌, false, IsTrue, IfSome, [], length, slice_index_or};
+ghost use Rattle.std.specs.Prelude.{◌≡◌, ◌≤◌, ◌<◌, ◌↔◌, ◌+◌, false, IsTrue, IfSome, [], None, Some, length, slice_index_or};
+ghost use Rattle.ooo_time.specs.Stamps.{IsBefore};
 ghost use Rattle.ooo_dispatch.specs.Boards.{Board, IsOverBoard};
 ghost use Rattle.ooo_dispatch.specs.Least.{Advance, IsBelowCut};
 ghost use Rattle.ooo_dispatch.specs.Rules.{Rules};
-ghost use Rattle.ooo_fronts.specs.Choices.{AllBelowLimit, HasFrontBelow, IsBelowLimit, IsChoiceOf};
-ghost use Rattle.ooo_fronts.specs.Choices.{IsEarlierOf, IsPick, IsReadyAt, MayRunNow, NoFrontBelow};
+ghost use Rattle.ooo_fronts.specs.Choices.{AllBelowLimit, HasFrontBelow, IsBestBelow, IsChoiceOf};
+ghost use Rattle.ooo_fronts.specs.Choices.{IsPick, IsReadyAt, MayRunNow, NoFrontBelow};
 ghost use Rattle.ooo_fronts.specs.Cuts.{IsLeastStamp};
 
 use crate::cut::Cut;
@@ -72,8 +73,13 @@ impl Choice<'_> {
         let mut best = None;
         let mut limited = false;
         for p in 0..self.fronts.len() as u32 {
-            best = earlier(best, self.ready_at(p));
-            limited = limited || self.is_at_limit(p);
+            if let Some(front) = self.fronts[p as usize] {
+                if self.cut.is_below_limit(front.stamp) {
+                    best = self.better(best, p, front);
+                } else {
+                    limited = true;
+                }
+            }
         }
         let place: Place = best?;
         if self.is_below(place, limited) {
@@ -134,16 +140,30 @@ impl Choice<'_> {
         self.held[p as usize] == 0
     }
 
-    // Whether a process has a front that isn't below the limit of deltas.
+    // The best place of the processes before this one and of this one, whose front is below the limit of deltas.
     #[inline(always)]
-    fn is_at_limit(&self, p: u32) -> bool
-        requires { p < length self.now.fronts.now }
-        ensures { result ≡ false → IsBelowLimit self.now p }
+    fn better(&self, best: Option<Place>, p: u32, front: Front) -> Option<Place>
+        requires process { p < length self.now.fronts.now }
+        requires states { length self.now.states.now ≡ length self.now.fronts.now }
+        requires held { length self.now.held.now ≡ length self.now.fronts.now }
+        requires front { slice_index_or self.now.fronts.now p None ≡ Some front }
+        requires limit { front.stamp.delta < self.now.cut.now.deltas }
+        requires best { IfSome best (λ at. at.process < p) }
+        ensures within { IfSome result (λ at. at.process < p + 1) }
+        ensures best { (r : Rules) (least : Advance) (b : Board r) → IsChoiceOf r least b self.now →
+            IsBestBelow r least b p best → IsBestBelow r least b (p + 1) result }
     {
-        let Some(front) = self.fronts[p as usize] else {
-            return false;
-        };
-        !self.cut.is_below_limit(front.stamp)
+        if self.states[p as usize].is_waiting()
+            && self.is_free(p)
+            && comes_first(front.stamp, best)
+        {
+            Some(Place {
+                stamp: front.stamp,
+                process: p,
+            })
+        } else {
+            best
+        }
     }
 
     // Whether a place is below the cut. The limit of deltas cuts off nothing unless a front is at it, so the least front is
@@ -187,14 +207,13 @@ impl Choice<'_> {
     }
 }
 
-// The earlier of two places, of those that there are.
+// Whether a stamp is before that of the best place so far, if there is one.
 #[inline(always)]
-fn earlier(best: Option<Place>, other: Option<Place>) -> Option<Place>
-    ensures { IsEarlierOf best other result }
+fn comes_first(stamp: Stamp, best: Option<Place>) -> bool
+    ensures { IsTrue result ↔ IfSome best (λ at. IsBefore stamp at.stamp) }
 {
-    match (best, other) {
-        (Some(best), Some(other)) if other.is_before(best) => Some(other),
-        (Some(best), _) => Some(best),
-        (None, other) => other,
+    match best {
+        Some(best) => stamp.is_before(best.stamp),
+        None => true,
     }
 }

@@ -3,8 +3,7 @@ use Rattle.std.proofs.Common.{◌≡◌, false, ℕ, ◌<◌, IfSome}
 use Rattle.ooo_dispatch.specs.Boards.{Board}
 use Rattle.ooo_dispatch.specs.Least.{Advance}
 use Rattle.ooo_dispatch.specs.Rules.{Rules}
-use Rattle.ooo_fronts.specs.Choices.{IsBelowLimit, IsChoiceOf}
-use Rattle.ooo_fronts.proofs.Choosing.{IsBestBelow}
+use Rattle.ooo_fronts.specs.Choices.{IsBelowLimit, IsBestBelow, IsChoiceOf}
 use Rattle.ooo_fronts.proofs.choice.Choice.pick.Given as goal
 
 abbrev pub invariant-loop-p : goal.invariant-loop-p
