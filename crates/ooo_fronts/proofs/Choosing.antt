@@ -20,7 +20,7 @@ use Rattle.ooo_fronts.specs.Choices.{AllBelowLimit, IsBelowLimit, IsBest, IsBest
 use Rattle.ooo_fronts.proofs.Below.{below_before}
 use Rattle.ooo_fronts.proofs.Earliest.{earliest, least_on_board}
 use Rattle.ooo_fronts.proofs.Leasts.{least_below, not_at_limit, some_is, some_least}
-use Rattle.ooo_fronts.proofs.Places.{compare_places, joins, not_both}
+use Rattle.ooo_fronts.proofs.Places.{compare, compare_places, joins, not_both}
 use Rattle.ooo_fronts.proofs.Ruling.{kept_is}
 
 -- ---- fronts
@@ -110,11 +110,6 @@ pub taken : (best : Option Place) (at : Place) → IfSome best (λ x. IsBefore a
 taken None at h = refl
 taken (Some x) at h = inl (inl h, refl)
 
--- and one of a later process at a stamp that isn't, is not
-pub not_taken : (best : Option Place) (at : Place) → IfSome best (λ x. x.process < at.process) → (IfSome best (λ x. IsBefore at.stamp x.stamp) → ⊥) → IsEarlierOf best (Some at) best
-not_taken None at p n = absurd (n tt)
-not_taken (Some x) at p n = inr (λ h. ⊎_elim n (λ y. let l = y.1 in absurd (omega (arith, l, p))) h, refl)
-
 pub none_taken : (best : Option Place) → IsEarlierOf best None best
 none_taken None = refl
 none_taken (Some x) = refl
@@ -150,6 +145,15 @@ module _ (r : Rules) (least : Advance) (b : Board r) (choice : Choice) (k : IsCh
   unready_limit f own n g m =
       let same = same_front r b choice.fronts.now k.fronts p f g own m.front in
       n (subst (λ d. f.stamp.delta < d) (sym k.cut.deltas) (subst (λ (x : board.Front Stamp). x.stamp.delta < r.limits.deltas) same m.below_limit))
+
+  -- a front at a stamp that isn't earlier comes after the best so far
+  pub not_earlier : (f : Front) → slice_index_or choice.fronts.now p None ≡ Some f → (best : Option Place) → IsBestBelow r least b p best → (IfSome best (λ x. IsBefore f.stamp x.stamp) → ⊥) → IsBestBelow r least b (p + 1) best
+  not_earlier f own None h n = absurd (n tt)
+  not_earlier f own (Some at) h n = stays_best r least b p at h (λ g w.
+      subst (λ (x : board.Front Stamp). ComesBefore at (place_of x.stamp p)) (sym (same_front r b choice.fronts.now k.fronts p f g own w.front)) (elim (compare at.stamp f.stamp) [
+        | inl before ↦ inl before
+        | inr other ↦ elim other [ inl same ↦ inr (same, h.below) | inr later ↦ absurd (n later) ]
+      ]))
 
   pub unready_none : slice_index_or choice.fronts.now p None ≡ None → IsReadyAt r least b p None
   unready_none none g m = absurd (no_front r b choice.fronts.now k.fronts p g none m.front)

@@ -153,9 +153,9 @@ impl Choice<'_> {
         ensures best { (r : Rules) (least : Advance) (b : Board r) → IsChoiceOf r least b self.now →
             IsBestBelow r least b p best → IsBestBelow r least b (p + 1) result }
     {
-        if self.states[p as usize].is_waiting()
+        if comes_first(front.stamp, best)
+            && self.states[p as usize].is_waiting()
             && self.is_free(p)
-            && comes_first(front.stamp, best)
         {
             Some(Place {
                 stamp: front.stamp,
