@@ -1,0 +1,4 @@
+pub mod Counting
+pub mod Turned
+pub mod Ending
+pub mod Running
