@@ -1,6 +1,6 @@
-use Rattle.std.proofs.Common.{sym, subst}
+use Rattle.std.proofs.Common.{◌<◌, sym, subst}
 use Rattle.ooo_board.specs.Boards.{MayBeDispatched}
-use Rattle.ooo_one_worker.specs.Turns.{IsUnderWay}
+use Rattle.ooo_one_worker.specs.Turns.{IsUnderWay, turns_left}
 use Rattle.ooo_one_worker.proofs.Running.{goes_on, starts}
 use Rattle.ooo_one_worker.proofs.turns.run_board.Goals as goal
 
@@ -24,6 +24,15 @@ turns-preserved c =
     let laws = c.turns_go_on.ensures in
     subst (IsUnderWay design c.args.limits c.args.tables) (sym c.in_ok-turn.ensures)
     (goes_on design c.args.limits c.args.tables b p way (laws.between b p way.between may) (laws.fewer b p way.between may))
+
+pub turns-smaller : goal.turns-smaller
+turns-smaller c =
+    let b = c.turns.board in
+    let p = c.in-Some.p in
+    let way = c.turns.invariant in
+    let pick = c.in-Some.ensures.pick (λ lost. lost way.between.none_lost) in
+    let may : MayBeDispatched b p = (way.between.none_lost, pick.0, pick.1) in
+    subst (λ x. turns_left x < turns_left b) (sym c.in_ok-turn.ensures) (c.turns_go_on.ensures.fewer b p way.between may)
 
 pub returns-clause-over : goal.returns-clause-over
 returns-clause-over c =
