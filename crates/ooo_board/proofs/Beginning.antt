@@ -1,5 +1,5 @@
 -- A board as it starts: its processes, with their first segments.
-use Rattle.std.proofs.Common.{◌≡◌, ℕ, zero, suc, ◌+◌, ◌<◌, ◌≤◌, ◌&&◌, ◌==◌, List, [], ◌∷◌, ◌++◌, Bool, true, false, Option, Some, None, length, get_or, map, replicate, if◌then◌else◌, refl, sym, ap, subst, ◌∙◌, arith, eq-eqb, ⊎_elim}
+use Rattle.std.proofs.Common.{◌≡◌, ℕ, zero, suc, ◌+◌, ◌<◌, ◌≤◌, ◌&&◌, ◌==◌, List, [], ◌∷◌, ◌++◌, Bool, true, false, Option, Some, None, length, get_or, map, replicate, if◌then◌else◌, refl, sym, ap, subst, ◌∙◌, arith, eq-eqb, inl, ⊎_elim}
 use Rattle.std.specs.Prelude.{slice_get}
 use Rattle.std.specs.List.{position_or_len}
 use Rattle.std.proofs.lemmas.Bool.{eqb-true}
@@ -19,6 +19,8 @@ use Rattle.ooo_code.specs.declared.segment.SegmentEntry.TheVariants.{Start}
 use Rattle.ooo_code.specs.Nodes.{first_frame}
 use Rattle.ooo_segments.specs.Beginnings.{AreSegments, Beginning, beginning_of, beginnings_from, beginnings_of}
 use Rattle.ooo_meaning.specs.World.{zero_stamp}
+use Rattle.ooo_channels.specs.Bank.{BankState, IsBankAfter}
+use Rattle.ooo_channels.specs.Operations.{no_operations}
 use Rattle.ooo_schedules.specs.Design.{Wait, front_by, front_when, slot, sooner, soonest}
 use Rattle.ooo_schedules.specs.Model.{front_of}
 use Rattle.ooo_schedules.specs.Program.{design}
@@ -38,6 +40,7 @@ use Rattle.ooo_board.specs.declared.process.Process.{Process}
 use Rattle.ooo_board.specs.declared.process.Waiting.{Waiting}
 use Rattle.ooo_board.specs.Boards.{is_running, running_in}
 use Rattle.ooo_board.specs.Cores.{AreProcesses, AreStatesAfter, AreVariables, HasCore, IsCore, IsProcess, IsStateOf, maybe_wait, wait_is}
+use Rattle.ooo_board.specs.Forgetting.{HasBank, forgetting}
 use Rattle.ooo_board.specs.Links.{begins_at}
 use Rattle.ooo_board.proofs.Leaving.{found}
 use Rattle.ooo_board.specs.Starting.{IsFirst, first_cells, first_front, front_at, timed_front}
@@ -251,6 +254,13 @@ first_variables_are r variables are = record {
     without x past is =
         let made = length-map r.design.variables (λ v. replicate v.length v.start) in
         get_or_past (first_cells r.design.variables) x [] (omega arith) ∙ sym (ap cells is)
+
+-- ---- the bank
+
+pub has_bank_first : (r : Rules) (bank : BankState) (below : Stamp) → (below.time.0 ≡ 0) × (below.delta ≡ 0) → IsBankAfter bank (no_operations r.design.channels r.design.events) → HasBank r (nothing_done r).board bank below
+has_bank_first r bank below (time, delta) is =
+    let first : below ≡ zero_stamp = λ i. record { time = record { 0 = time i }; delta = delta i } in
+    record { applied = subst (λ s. IsBankAfter bank (forgetting s (no_operations r.design.channels r.design.events))) (sym first) is; past = inl first }
 
 -- ---- states
 

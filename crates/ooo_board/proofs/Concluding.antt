@@ -37,7 +37,9 @@ use Rattle.ooo_fronts.specs.Cuts as cuts
 use Rattle.ooo_fronts.specs.Cuts.{IsLeastStamp}
 use Rattle.ooo_board.specs.Cores.{after}
 use Rattle.ooo_board.specs.Finishing.{IsAskedFor, IsFinished, break_of, ends_of, shows}
+use Rattle.ooo_board.specs.Forgetting.{forgetting}
 use Rattle.ooo_board.specs.declared.cores.Core.{Core}
+use Rattle.ooo_board.proofs.Forgotten.{history_same}
 use Rattle.ooo_board.proofs.Handing.{channels_of}
 
 -- ---- one more
@@ -104,8 +106,8 @@ module _ (design : Design) (limits : Limits) (t : Tables) (steps : List Step) (c
   abbrev b : Board (rules_of design limits t)
   b = (after design limits t steps).board
 
-  pub asked : IsAskedFor c.bank (operations_on r b)
-  asked = record { after = f.has.core.has_bank; ordered = off.ordered }
+  pub asked : IsAskedFor c.bank (forgetting c.below (operations_on r b))
+  asked = record { after = f.has.core.has_bank.applied; ordered = off.ordered }
 
   pub channels_are : length (operations_on r b).channels ≡ length design.channels
   channels_are = ap length (channels_of r b.log)
@@ -126,7 +128,7 @@ module _ (design : Design) (limits : Limits) (t : Tables) (steps : List Step) (c
     pub least : IsLeastStamp r b next
     pub pieces : IsPermutation (filter (λ x. shows c.cut next x.place) c.pieces.items) run.pieces
     pub in_order : IsSortedBy (λ x y. precedes x.place y.place) run.pieces
-    pub histories : AreHistoriesBy (operations_on r b) (counted_before c.cut.deltas (ends_of c.cut next)) (length design.channels) run.channels
+    pub histories : AreHistoriesBy (forgetting c.below (operations_on r b)) (counted_before c.cut.deltas (ends_of c.cut next)) (length design.channels) run.channels
     pub end :
         run.end
         ≡ ended_by (break_shown c.cut.deltas (ends_of c.cut next) (break_of c.cut.broken)) (stop_shown c.cut.deltas next c.cut.stopped)
@@ -147,7 +149,7 @@ module _ (design : Design) (limits : Limits) (t : Tables) (steps : List Step) (c
           (subst (λ ps. IsPermutation (filter (λ x. shows c.cut next x.place) ps) run.pieces) f.has.core.has_pieces m.pieces);
       in_order = m.in_order;
       channels = m.histories.count;
-      histories = λ n lt. m.histories.each n lt ∙ ap (λ k. history_by (operations_on r b) (counted_before k e) n) deltas;
+      histories = λ n lt. m.histories.each n lt ∙ history_same c.below (operations_on r b) (counted_before c.cut.deltas e) n ∙ ap (λ k. history_by (operations_on r b) (counted_before k e) n) deltas;
       end =
           m.end
           ∙ ap (λ k. ended_by (break_shown k e (break_of c.cut.broken)) (stop_shown k next c.cut.stopped) (end_at r (latest_stamp (filter (is_shown k e) c.places.items)) next)) deltas

@@ -6,7 +6,6 @@ use Rattle.std.proofs.lemmas.List.{length-set}
 use Rattle.ooo_time.specs.declared.stamp.Stamp.{Stamp}
 use Rattle.ooo_code.specs.declared.design.Design.{Design}
 use Rattle.ooo_code.specs.declared.limits.Limits.{Limits}
-use Rattle.ooo_channels.specs.Bank.{IsBankAfter}
 use Rattle.ooo_schedules.specs.Model.{Act, dispatched, front_of, job, last, running_or}
 use Rattle.ooo_tables.specs.declared.tables.Tables.{Tables}
 use Rattle.ooo_fronts.specs.declared.choice.State.{State}
@@ -18,7 +17,6 @@ use Rattle.ooo_fronts.specs.Holds.{AreCounts}
 use Rattle.ooo_dispatch.specs.declared.reads.Reads.{Reads}
 use Rattle.ooo_dispatch.specs.declared.step.Step.{Step}
 use Rattle.ooo_dispatch.specs.declared.step.Step.TheVariants.{Dispatch}
-use Rattle.ooo_dispatch.specs.Banks.{operations_on}
 use Rattle.ooo_dispatch.specs.Boards.{Board, model}
 use Rattle.ooo_dispatch.specs.Least.{rules_of}
 use Rattle.ooo_dispatch.specs.Rules.{Rules, access_of, has}
@@ -28,7 +26,9 @@ use Rattle.ooo_board.specs.declared.cores.Core.{Core}
 use Rattle.ooo_board.specs.declared.process.Process.{Process}
 use Rattle.ooo_board.specs.Carrying.{bare, taken_from}
 use Rattle.ooo_board.specs.Cores.{AreProcesses, AreStatesAfter, AreVariables, IsCore, IsHome, IsProcess, IsStateOf, MayDispatch, after, maybe_wait}
+use Rattle.ooo_board.specs.Forgetting.{HasBank}
 use Rattle.ooo_board.proofs.Moving.{length_taken, taken_stays}
+use Rattle.ooo_board.proofs.Past.{past_same}
 
 -- an item of a list of which one is set is that one, or stands elsewhere
 set_apart : {A : Type 0} (xs : List A) (i : ℕ) (a : A) (k : ℕ) (x : A) → slice_get (slice_set xs i a) k ≡ Some x →
@@ -45,6 +45,7 @@ set_apart (y ∷ ys) (suc i) a (suc k) x h = elim (set_apart ys i a k x h) [
 -- a job went out of a core: the variables that it owns are taken, its process runs, and all else but that process's locals is as it was
 pub record WentOut (old new : Core) (p : ℕ) (written : List ℕ) : Type 0 where
   pub bank : new.bank ≡ old.bank
+  pub below : new.below ≡ old.below
   pub variables : new.variables.items ≡ (taken_from old.variables.items (bare written)).0
   pub process : Process
   pub left : Process
@@ -158,9 +159,15 @@ module _ (design : Design) (limits : Limits) (t : Tables) (steps : List Step) (p
     fronts_after : AreFrontsOf r next.board new.fronts.fronts
     fronts_after = subst (λ (k : Kept). AreFrontsOf r next.board k.fronts) (sym went.fronts) (record { count = core.has_fronts.count; each = λ q. front_same q ∙ core.has_fronts.each q })
 
+    bank_after : HasBank r next.board old.bank old.below
+    bank_after = record {
+      applied = core.has_bank.applied;
+      past = past_same r b next.board old.below (λ q g is. sym (front_same q) ∙ is) core.has_bank.past;
+    }
+
     core_next : IsCore design limits t next new
     core_next = record {
-      has_bank = subst (λ k. IsBankAfter k (operations_on r b)) (sym went.bank) core.has_bank;
+      has_bank = subst (HasBank r next.board new.bank) (sym went.below) (subst (λ k. HasBank r next.board k old.below) (sym went.bank) bank_after);
       has_variables = variables_after;
       has_processes = processes_after;
       has_states = states_after;

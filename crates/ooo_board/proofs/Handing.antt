@@ -16,10 +16,9 @@ use Rattle.ooo_code.specs.declared.design.Proc.{Proc}
 use Rattle.ooo_code.specs.declared.limits.Limits.{Limits}
 use Rattle.ooo_code.specs.declared.segment.Segment.{Segment}
 use Rattle.ooo_code.specs.declared.segment.SegmentEntry.TheVariants.{Start}
-use Rattle.ooo_meaning.specs.World.{zero_stamp}
 use Rattle.ooo_access.specs.declared.access.Access.{Access}
 use Rattle.ooo_access.specs.Access.{AreAscending, IsAccessOf, IsInOrder}
-use Rattle.ooo_channels.specs.Bank.{BankState, IsBankAfter}
+use Rattle.ooo_channels.specs.Bank.{BankState}
 use Rattle.ooo_channels.specs.Operations.{Operations, after_effect, after_effects}
 use Rattle.ooo_schedules.specs.Model.{Act, job}
 use Rattle.ooo_schedules.specs.Design.{only, sort}
@@ -47,11 +46,14 @@ use Rattle.ooo_board.specs.declared.links.Watched.{Watched}
 use Rattle.ooo_board.specs.Carrying.{bare, carried_from, taken_from}
 use Rattle.ooo_board.specs.Jobs.{IsJobOf}
 use Rattle.ooo_board.specs.Cores.{AreVariables, HasCore, IsCore, IsDispatched, MayDispatch, Stands, after}
+use Rattle.ooo_board.specs.Forgetting.{HasBank, forgetting}
 use Rattle.ooo_board.specs.Lending.{AreAtHand, ArePartsOf}
 use Rattle.ooo_board.specs.Links.{AreLinks, only_read, watched_from}
 use Rattle.ooo_board.specs.Seeing.{IsAskedAt, MayAsk, sights_of}
+use Rattle.ooo_board.proofs.Forgotten.{sights_same}
 use Rattle.ooo_board.proofs.Moving.{taken_bare}
 use Rattle.ooo_board.proofs.Parts.{carries}
+use Rattle.ooo_board.proofs.Past.{front_kept}
 use Rattle.ooo_board.proofs.Watching.{sights_watched, watched_within}
 
 -- ---- of lists
@@ -132,17 +134,9 @@ channels_same : (at : Stamp) (fs : List Effect) (ops : Operations) → (after_ef
 channels_same at [] ops = refl
 channels_same at (f ∷ fs) ops = channels_same at fs (after_effect at ops f)
 
-below_same : (at : Stamp) (fs : List Effect) (ops : Operations) → (after_effects at ops fs).below ≡ ops.below
-below_same at [] ops = refl
-below_same at (f ∷ fs) ops = below_same at fs (after_effect at ops f)
-
 pub channels_of : (r : Rules) (log : List (Act Stamp Reads)) → (operations_of r log).channels ≡ r.design.channels
 channels_of r [] = refl
 channels_of r (y ∷ ys) = channels_same y.stamp (deed_of r y).effects (operations_of r ys) ∙ channels_of r ys
-
-below_of : (r : Rules) (log : List (Act Stamp Reads)) → (operations_of r log).below ≡ zero_stamp
-below_of r [] = refl
-below_of r (y ∷ ys) = below_same y.stamp (deed_of r y).effects (operations_of r ys) ∙ below_of r ys
 
 -- ---- what is lent
 
@@ -255,14 +249,17 @@ module _ (design : Design) (limits : Limits) (t : Tables) (steps : List Step) (p
   abbrev ops : Operations
   ops = operations_on r b
 
-  pub asked : (bank : BankState) → IsBankAfter bank ops → IsAskedAt design bank ops
-  asked bank is = record { bank = is; channels = channels_of r b.log; below = below_of r b.log }
+  module _ (may : MayDispatch design limits t steps p f) (bank : BankState) (below : Stamp) (has : HasBank r b bank below) where
+    pub asked : IsAskedAt design bank f.stamp (forgetting below ops)
+    asked = record { bank = has.applied; channels = channels_of r b.log; kept = front_kept r b below p (front_is f) has.past may.may.front }
 
-  pub may_ask : (bank : BankState) → IsBankAfter bank ops → MayAsk design bank (watched_from a 0 design.channels)
-  may_ask bank is = record { ops = ops; asked = asked bank is; there = watched_within a design.channels }
+    pub may_ask : MayAsk design bank f.stamp (watched_from a 0 design.channels)
+    may_ask = record { ops = forgetting below ops; asked = asked; there = watched_within a design.channels }
 
-  pub seen_is : sights_of f.stamp ops design.channels (watched_from a 0 design.channels) ≡ j.reads.seen
-  seen_is = sights_watched ops f.stamp a design.channels (channels_of r b.log) ∙ sym hand.reads.seen
+  pub seen_is : (below : Stamp) → sights_of f.stamp (forgetting below ops) design.channels (watched_from a 0 design.channels) ≡ j.reads.seen
+  seen_is below =
+      sights_watched (forgetting below ops) f.stamp a design.channels (channels_of r b.log)
+      ∙ sights_same below ops a f.stamp 0 design.channels ∙ sym hand.reads.seen
 
   -- ---- what the job carries
 

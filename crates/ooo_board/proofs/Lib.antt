@@ -10,6 +10,8 @@ pub mod Moving
 pub mod Sizes
 pub mod Beginning
 pub mod Watching
+pub mod Forgotten
+pub mod Past
 pub mod Asking
 pub mod Refreshing
 pub mod Committed

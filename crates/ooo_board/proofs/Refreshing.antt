@@ -73,18 +73,23 @@ module _ (r : Rules) (t : Tables) (s : Replay r) where
     busy Abandoned at not = runs (last q s.board.out) refl (waking.has_states.each q Abandoned at).1
 
     module _ (x : Process) (at : slice_get c.processes.items q ≡ Some x) where
-      pub may_ask_front : MayAskFront r s.board c.bank (maybe_wait x.waiting)
-      may_ask_front = record {
-        has_bank = waking.has_bank;
+      -- the front of a process that waits is the one by its wait
+      front_waits : slice_get c.states.items q ≡ Some Waiting → front_of (model r) s.board q ≡ front_told r s.board (maybe_wait x.waiting)
+      front_waits idle =
+          ap (λ o. running_or o ((model r).front s.board.log q)) (waking.has_states.each q Waiting idle)
+          ∙ ap (front_told r s.board) (sym (waking.has_processes.each q x at).waiting)
+
+      pub may_ask_front : slice_get c.states.items q ≡ Some Waiting → MayAskFront r s.board c.bank c.below (maybe_wait x.waiting)
+      may_ask_front idle = record {
+        applied = waking.has_bank.applied;
         told = λ w e. waking.told q w (sym (waking.has_processes.each q x at).waiting ∙ e);
+        past = ⊎_elim (λ first. inl first) (λ after. inr (λ g is. after q g (front_waits idle ∙ is))) waking.has_bank.past;
       }
 
       module _ (idle : slice_get c.states.items q ≡ Some Waiting) (front : Option kept.Front) (told : maybe_front front ≡ front_told r s.board (maybe_wait x.waiting)) where
         -- the front that is told is the one that the process has
         is_front : front_of (model r) s.board q ≡ maybe_front front
-        is_front =
-            ap (λ o. running_or o ((model r).front s.board.log q)) (waking.has_states.each q Waiting idle)
-            ∙ ap (front_told r s.board) (sym (waking.has_processes.each q x at).waiting) ∙ sym told
+        is_front = front_waits idle ∙ sym told
 
         pub fits : (f : kept.Front) → front ≡ Some f → IsFit t q f
         fits f e =

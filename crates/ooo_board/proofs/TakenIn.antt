@@ -50,11 +50,14 @@ use Rattle.ooo_board.specs.declared.links.Links.{Links}
 use Rattle.ooo_board.specs.declared.process.Process.{Process}
 use Rattle.ooo_board.specs.Committing.{IsCommit, IsOwnWait, MayLeave, once_committed, piece_at}
 use Rattle.ooo_board.specs.Cores.{AreProcesses, AreStatesAfter, AreVariables, IsCore, IsHome, IsProcess, IsStateOf, maybe_wait}
+use Rattle.ooo_board.specs.Forgetting.{HasBank, forgetting}
 use Rattle.ooo_board.specs.Jobs.{IsDoneOf}
 use Rattle.ooo_board.specs.Links.{AreLinks}
 use Rattle.ooo_board.specs.Waking.{ChannelReaches, EffectsReach, IsRight, IsThere, IsWaking, ReachesAll, Reaches, Woken, front_told}
 use Rattle.ooo_board.proofs.Committed.{last_other, last_without, counted_once, without_in}
+use Rattle.ooo_board.proofs.Forgotten.{effects_same, may_apply_all}
 use Rattle.ooo_board.proofs.Moving.{length_placed, placed}
+use Rattle.ooo_board.proofs.Past.{past_on}
 
 -- ---- lists of which an item is set
 
@@ -313,8 +316,15 @@ module _ (design : Design) (limits : Limits) (t : Tables) (s : Replay (rules_of 
   pub effects_are : done.emitted.effects.items ≡ (deed_of (rules_of design limits t) j).effects
   effects_are = sym (ap (λ o. o.deed.effects) is.does)
 
-  pub may_apply : (fs : List Effect) → fs ≡ done.emitted.effects.items → MayApplyAll (operations_on (rules_of design limits t) s.board) at fs
-  may_apply fs e = subst (λ gs. MayApplyAll (operations_on (rules_of design limits t) s.board) at gs) (sym (e ∙ effects_are)) (subst (λ u. MayApplyAll (operations_on (rules_of design limits t) s.board) u (deed_of (rules_of design limits t) j).effects) (sym stamp) keep.may.may)
+  -- the operations so far, of which what is past is forgotten
+  abbrev pub told_so_far : Operations
+  told_so_far = forgetting c0.below (operations_on (rules_of design limits t) s.board)
+
+  pub may_apply : (fs : List Effect) → fs ≡ done.emitted.effects.items → MayApplyAll told_so_far at fs
+  may_apply fs e =
+      subst (λ gs. MayApplyAll told_so_far at gs) (sym (e ∙ effects_are))
+      (subst (λ u. MayApplyAll told_so_far u (deed_of (rules_of design limits t) j).effects) (sym stamp)
+      (may_apply_all c0.below j.stamp (deed_of (rules_of design limits t) j).effects (operations_on (rules_of design limits t) s.board) keep.may.may))
 
   pub countable : IsCountableStamp at
   countable = subst IsCountableStamp (sym stamp) keep.countable
@@ -354,6 +364,7 @@ module _ (design : Design) (limits : Limits) (t : Tables) (s : Replay (rules_of 
 -- what is kept once the process is left, before fronts are asked anew
 pub record TakesIn (r : Rules) (s : Replay r) (p : ℕ) (j : Act Stamp Reads) (done : Done) (at : Stamp) (c0 c1 : Core) (x0 x1 : Process) : Type 0 where
   pub bank : (ops : Operations) → IsBankAfter c0.bank ops → MayApplyAll ops at done.emitted.effects.items → IsBankAfter c1.bank (after_effects at ops done.emitted.effects.items)
+  pub below : c1.below ≡ c0.below
   pub variables : c1.variables.items ≡ put_in done.owned.items c0.variables.items
   pub was : slice_get c0.processes.items p ≡ Some x0
   pub processes : c1.processes.items ≡ slice_set c0.processes.items p x1
@@ -382,11 +393,16 @@ module _ (design : Design) (limits : Limits) (t : Tables) (s : Replay (rules_of 
       by true e = same (eqb-true q p e)
       by false e = other (λ k. absurd (grind (arith, e, k)))
 
-  new_bank : IsBankAfter c1.bank (operations_on rules later.board)
-  new_bank =
-      let made = takes.bank (operations_on rules s.board) core.has_bank (may_apply design limits t s p j keep done is at stamp c0 core done.emitted.effects.items refl) in
-      let fs = effects_are design limits t s p j keep done is at stamp c0 core in
-      subst (IsBankAfter c1.bank) (λ i. after_effects (stamp i) (operations_on rules s.board) (fs i)) made
+  new_bank : HasBank rules later.board c1.bank c1.below
+  new_bank = subst (HasBank rules later.board c1.bank) (sym takes.below) (record {
+    applied =
+        let ops = operations_on rules s.board in
+        let made = takes.bank (forgetting c0.below ops) core.has_bank.applied (may_apply design limits t s p j keep done is at stamp c0 core done.emitted.effects.items refl) in
+        let fs = effects_are design limits t s p j keep done is at stamp c0 core in
+        subst (IsBankAfter c1.bank)
+        ((λ i. after_effects (stamp i) (forgetting c0.below ops) (fs i)) ∙ effects_same c0.below j.stamp (deed_of rules j).effects ops) made;
+    past = past_on rules t.advance s.board later.board p j c0.below keep.front keep.walks core.has_bank.past;
+  })
 
   was_home : (x : ℕ) → has (access_of rules j.segment).written x ≡ false → IsHome rules later.board x → IsHome rules s.board x
   was_home x e home k i owns_it =

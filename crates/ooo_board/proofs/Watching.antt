@@ -6,7 +6,6 @@ use Rattle.std.proofs.lemmas.List.Elements.{All-append, All-cons, All-nil}
 use Rattle.std.proofs.lemmas.List.Kept.{AllPairs-cons}
 use Rattle.std.proofs.lemmas.Option.{slice_get-get_or}
 use Rattle.ooo_time.specs.declared.stamp.Stamp.{Stamp}
-use Rattle.ooo_time.specs.Stamps.{IsBefore}
 use Rattle.ooo_value.specs.declared.bound.BoundChannel.{BoundChannel}
 use Rattle.ooo_value.specs.declared.bound.ChannelKind.{ChannelKind}
 use Rattle.ooo_value.specs.declared.bound.ChannelKind.TheVariants as kind
@@ -16,7 +15,6 @@ use Rattle.ooo_code.specs.declared.activation.Seen.TheVariants as seen
 use Rattle.ooo_code.specs.declared.design.Design.{Design}
 use Rattle.ooo_code.specs.Channels.{Channel, IsSignal, IsFifo, available, free_slots, is_time}
 use Rattle.ooo_code.specs.Sound.{FitsChannel}
-use Rattle.ooo_meaning.specs.World.{zero_stamp}
 use Rattle.ooo_access.specs.declared.access.Access.{Access}
 use Rattle.ooo_channels.specs.Bank.{BankState}
 use Rattle.ooo_channels.specs.Conditions.{HasChannel}
@@ -29,10 +27,6 @@ use Rattle.ooo_board.specs.declared.links.Watched.{Watched}
 use Rattle.ooo_board.specs.Links.{watched_from, watched_of}
 use Rattle.ooo_board.specs.Seeing.{Ascend, IsAskedAt, shown_as, sight_at, sights_of}
 use Rattle.ooo_board.proofs.Sizes.{Holds, IsOf, before_is, channel_holds, channel_is}
-
--- no stamp is before the first one
-pub none_before : (s : Stamp) (below : Stamp) → below ≡ zero_stamp → ¬ IsBefore s below
-none_before s below e = subst (λ z. ¬ IsBefore s z) (sym e) (λ h. omega (arith, h))
 
 -- ---- one channel
 
@@ -66,7 +60,7 @@ number_is s w (IsFifo f) = refl
 
 -- ---- a channel of a design
 
-module _ (design : Design) (bank : BankState) (ops : Operations) (asked : IsAskedAt design bank ops) (s : Stamp) where
+module _ (design : Design) (bank : BankState) (s : Stamp) (ops : Operations) (asked : IsAskedAt design bank s ops) where
   abbrev shown : ℕ → Channel
   shown c = shown_as s ops c (slice_get design.channels c)
 

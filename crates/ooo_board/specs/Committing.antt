@@ -1,5 +1,5 @@
 -- What holds of a job that is committed, and of the board after it.
-use Rattle.std.specs.Prelude.{◌≡◌, ℕ, ◌+◌, ◌<◌, ◌≤◌, ◌^◌, List, [], ◌∷◌, length, Option, Some, Contains, IfSome, true, if◌then◌else◌}
+use Rattle.std.specs.Prelude.{◌≡◌, ℕ, ◌+◌, ◌<◌, ◌≤◌, ◌^◌, ◌⊎◌, List, [], ◌∷◌, length, Option, Some, Contains, IfSome, true, if◌then◌else◌}
 use Rattle.ooo_time.specs.declared.time.Time.{Time}
 use Rattle.ooo_time.specs.declared.stamp.Stamp.{Stamp}
 use Rattle.ooo_time.specs.declared.stamp.Place.{Place}
@@ -11,18 +11,18 @@ use Rattle.ooo_code.specs.declared.limits.Limits.{Limits}
 use Rattle.ooo_code.specs.declared.segment.SegmentEntry.{SegmentEntry}
 use Rattle.ooo_channels.specs.Conditions.{IsCountableStamp}
 use Rattle.ooo_schedules.specs.Design.{Wait}
-use Rattle.ooo_schedules.specs.Model.{Act, In, committed, count, last}
+use Rattle.ooo_schedules.specs.Model.{Act, Front, In, committed, count, front_at, last}
 use Rattle.ooo_schedules.specs.Program.{Waits, wait_by}
 use Rattle.ooo_schedules.specs.Tables.{program}
 use Rattle.ooo_tables.specs.declared.tables.Tables.{Tables}
 use Rattle.ooo_tables.specs.Tables.{AreTables}
 use Rattle.ooo_dispatch.specs.declared.reads.Reads.{Reads}
 use Rattle.ooo_dispatch.specs.Banks.{FrontsAreTold, LeavesWait, MayCommit}
-use Rattle.ooo_dispatch.specs.Boards.{model}
+use Rattle.ooo_dispatch.specs.Boards.{IsFront, model}
 use Rattle.ooo_dispatch.specs.Least.{rules_of}
 use Rattle.ooo_dispatch.specs.Reach.{FrontsInReach, LeavesInReach}
 use Rattle.ooo_dispatch.specs.Rules.{Rules, access_of, deed_of, has, left_by, process_of, tables, waits_on}
-use Rattle.ooo_dispatch.specs.Schedules.{cells_left, cells_on}
+use Rattle.ooo_dispatch.specs.Schedules.{HadFront, Leads, cells_left, cells_on}
 use Rattle.ooo_dispatch.specs.Steps.{Replay}
 use Rattle.ooo_fronts.specs.Fronts.{AreAligned}
 use Rattle.ooo_board.specs.declared.links.Links.{Links}
@@ -72,6 +72,7 @@ pub record IsCommit (r : Rules) (t : Tables) (s : Replay r) (p : ℕ) (j : Act S
   pub counted : count p s.board.log + 1 < 2 ^ 128
   pub aligned : AreAligned t
   pub access_count : length r.access ≡ length r.segments
+  pub front : IsFront r s.board p (front_at j)
   pub alone : (k : Act Stamp Reads) → In k s.board.out → k.process ≡ p → k ≡ j
   -- what it did may be taken in
   pub may : MayCommit r s.board j
@@ -86,5 +87,7 @@ pub record IsCommit (r : Rules) (t : Tables) (s : Replay r) (p : ℕ) (j : Act S
       (w : Wait Stamp) → LeavesWait r (deed_of r j).effects w → front_told r (once_committed r s j).board (Some w) ≡ front_told r s.board (Some w)
   -- what holds of the fronts after it
   pub waits : (q : ℕ) (w : Wait Stamp) → wait_by (program (tables r)) q (last q s.board.log) ≡ Some w → IsOwnWait r q w
+  pub walks :
+      (q : ℕ) (g : Front Stamp) → IsFront r (once_committed r s j).board q g → HadFront r s.board q g ⊎ Leads t.advance (front_at j) g
   pub told : FrontsAreTold r t.advance (once_committed r s j)
   pub in_reach : FrontsInReach r t.advance (once_committed r s j)

@@ -5,7 +5,7 @@ use Rattle.ooo_time.specs.Scales.{greatest_delta}
 use Rattle.ooo_code.specs.declared.design.Design.{Design}
 use Rattle.ooo_code.specs.declared.limits.Limits.{Limits}
 use Rattle.ooo_value.specs.declared.values.Value.{Value}
-use Rattle.ooo_channels.specs.Bank.{Covers, IsBankAfter}
+use Rattle.ooo_channels.specs.Bank.{Covers}
 use Rattle.ooo_interp.specs.declared.job.Done.{Done}
 use Rattle.ooo_schedules.specs.Design.{Wait}
 use Rattle.ooo_schedules.specs.Model as model
@@ -13,7 +13,6 @@ use Rattle.ooo_schedules.specs.Model.{Act, In, count, last}
 use Rattle.ooo_schedules.specs.Program.{wait_by}
 use Rattle.ooo_schedules.specs.Tables.{program}
 use Rattle.ooo_dispatch.specs.declared.reads.Reads.{Reads}
-use Rattle.ooo_dispatch.specs.Banks.{operations_on}
 use Rattle.ooo_dispatch.specs.Boards as board
 use Rattle.ooo_dispatch.specs.Boards.{Board}
 use Rattle.ooo_dispatch.specs.ReadOff.{pieces_in, places_in}
@@ -33,6 +32,7 @@ use Rattle.ooo_fronts.specs.Cuts.{IsCutOf}
 use Rattle.ooo_fronts.specs.Fronts.{AreFit, AreFrontsOf, front_is}
 use Rattle.ooo_fronts.specs.Holds.{AreCounts}
 use Rattle.ooo_board.specs.declared.cores.Core.{Core}
+use Rattle.ooo_board.specs.Forgetting.{HasBank}
 use Rattle.ooo_board.specs.Jobs.{Gives, IsJobOf}
 use Rattle.ooo_board.specs.declared.process.Process.{Process}
 use Rattle.ooo_board.specs.declared.process.Waiting.{Waiting as Wait_kept}
@@ -98,7 +98,7 @@ pub record AreStatesAfter (r : Rules) (s : Replay r) (states : List State) : Typ
 
 -- what a board keeps after some steps
 pub record IsCore (design : Design) (limits : Limits) (t : Tables) (s : Replay (rules_of design limits t)) (c : Core) : Type 0 where
-  pub has_bank : IsBankAfter c.bank (operations_on (rules_of design limits t) s.board)
+  pub has_bank : HasBank (rules_of design limits t) s.board c.bank c.below
   pub has_variables : AreVariables (rules_of design limits t) s.board c.variables.items
   pub has_processes : AreProcesses (rules_of design limits t) s.board c.processes.items
   pub has_states : AreStatesAfter (rules_of design limits t) s c.states.items

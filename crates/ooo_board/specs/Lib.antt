@@ -1,6 +1,7 @@
 pub mod Carrying
 pub mod Links
 pub mod Seeing
+pub mod Forgetting
 pub mod Cores
 pub mod Jobs
 pub mod Laws

@@ -1,11 +1,14 @@
 -- Fronts that are asked anew of a bank.
-use Rattle.std.specs.Prelude.{◌≡◌, ℕ, ◌<◌, ◌≤◌, List, [], length, Option, Some, slice_get, slice_index_or, ⊤}
+use Rattle.std.specs.Prelude.{◌≡◌, ℕ, ◌<◌, ◌≤◌, ◌⊎◌, List, [], length, Option, Some, slice_get, slice_index_or, ⊤}
 use Rattle.ooo_time.specs.declared.stamp.Stamp.{Stamp}
 use Rattle.ooo_time.specs.Scales.{greatest_delta}
+use Rattle.ooo_time.specs.Stamps.{IsBefore}
+use Rattle.ooo_meaning.specs.World.{zero_stamp}
 use Rattle.ooo_code.specs.declared.activation.Effect.{Effect}
 use Rattle.ooo_code.specs.declared.activation.Effect.TheVariants as effect
 use Rattle.ooo_code.specs.declared.design.Design.{Design}
 use Rattle.ooo_channels.specs.Bank.{BankState, IsBankAfter}
+use Rattle.ooo_channels.specs.Operations.{later_of}
 use Rattle.ooo_schedules.specs.Design.{Wait, front_when, sort}
 use Rattle.ooo_schedules.specs.Model.{Act, Front, front_of, last}
 use Rattle.ooo_schedules.specs.Program.{design, wait_by}
@@ -23,6 +26,7 @@ use Rattle.ooo_fronts.specs.Holds.{AreCounts}
 use Rattle.ooo_board.specs.declared.cores.Core.{Core}
 use Rattle.ooo_board.specs.declared.links.Links.{Links}
 use Rattle.ooo_board.specs.Cores.{AreProcesses, AreStatesAfter}
+use Rattle.ooo_board.specs.Forgetting.{HasBank, forgetting}
 use Rattle.ooo_board.specs.Links.{AreLinks}
 
 -- ---- one front
@@ -31,17 +35,24 @@ use Rattle.ooo_board.specs.Links.{AreLinks}
 abbrev pub front_told : (r : Rules) → Board r → Option (Wait Stamp) → Option (Front Stamp)
 front_told r b w = front_when (design (program (tables r))) (sort (design (program (tables r))) b.log) w
 
--- a bank of the board may be asked for it
-pub record MayAskFront (r : Rules) (b : Board r) (bank : BankState) (w : Option (Wait Stamp)) : Type 0 where
-  pub has_bank : IsBankAfter bank (operations_on r b)
-  pub told : (x : Wait Stamp) → w ≡ Some x → IsToldOf r b x
+-- it is after a stamp, unless that is the first of all
+abbrev pub IsPastFront : (r : Rules) → Board r → (below : Stamp) → Option (Wait Stamp) → Type 0
+IsPastFront r b below w = (below ≡ zero_stamp) ⊎ ((g : Front Stamp) → front_told r b w ≡ Some g → IsBefore below g.stamp)
 
--- of a bank of the board it is asked when the events of a wait fire since it began
-pub record IsAsked (r : Rules) (b : Board r) (bank : BankState) (w : Wait Stamp) (events : List ℕ) (since : Stamp) : Type 0 where
-  pub has_bank : IsBankAfter bank (operations_on r b)
+-- a bank of the board, which forgot what was before a stamp, may be asked for it
+pub record MayAskFront (r : Rules) (b : Board r) (bank : BankState) (below : Stamp) (w : Option (Wait Stamp)) : Type 0 where
+  pub applied : IsBankAfter bank (forgetting below (operations_on r b))
+  pub told : (x : Wait Stamp) → w ≡ Some x → IsToldOf r b x
+  pub past : IsPastFront r b below w
+
+-- of a bank of the board it is asked when the events of a wait fire since it began, after what is forgotten
+pub record IsAsked (r : Rules) (b : Board r) (bank : BankState) (w : Wait Stamp) (events : List ℕ) (from : Stamp) : Type 0 where
+  pub below : Stamp
+  pub applied : IsBankAfter bank (forgetting below (operations_on r b))
   pub told : IsToldOf r b w
+  pub past : IsPastFront r b below (Some w)
   pub are_events : w.events ≡ events
-  pub is_since : since_of w.since ≡ since
+  pub is_from : later_of (since_of w.since) below ≡ from
 
 -- ---- all fronts
 
@@ -51,7 +62,7 @@ IsRight r b fronts q = front_of (model r) b q ≡ kept_front fronts q
 
 -- after a commit all is kept but the fronts: of those that wait they are still to be asked anew, and those of the jobs out are right
 pub record IsWaking (r : Rules) (t : Tables) (s : Replay r) (c : Core) : Type 0 where
-  pub has_bank : IsBankAfter c.bank (operations_on r s.board)
+  pub has_bank : HasBank r s.board c.bank c.below
   pub told : (q : ℕ) (w : Wait Stamp) → wait_by (program (tables r)) q (last q s.board.log) ≡ Some w → IsToldOf r s.board w
   pub has_processes : AreProcesses r s.board c.processes.items
   pub has_states : AreStatesAfter r s c.states.items

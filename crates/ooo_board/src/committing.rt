@@ -165,6 +165,7 @@ fn commits_keep()
     ooo_dispatch::law::boards_go_on();
     ooo_dispatch::law::jobs_may_commit();
     ooo_dispatch::law::commits_put_back();
+    ooo_dispatch::law::commits_walk();
     ooo_dispatch::law::fronts_are_told();
     ooo_dispatch::law::fronts_stay();
     ooo_dispatch::law::fronts_in_reach();

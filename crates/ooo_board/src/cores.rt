@@ -21,7 +21,7 @@ use ooo_fronts::{Cut, Front, Fronts, State};
 use ooo_history::Piece;
 use ooo_interp::{Done, Job};
 use ooo_tables::Tables;
-use ooo_time::Place;
+use ooo_time::{Place, Stamp};
 use sqlite_items::Items;
 use std::alloc::{AllocError, Global};
 use std::mem;
@@ -31,6 +31,8 @@ use std::sync::Arc;
 #[derive(Drop)]
 pub(crate) struct Core {
     pub(crate) bank: Bank,
+    /// The stamp before which the bank forgets what was: the first of all, or one before all fronts.
+    pub(crate) below: Stamp,
     /// The cells of each variable, unless a job that is out owns it.
     pub(crate) variables: Vec<Cells>,
     pub(crate) processes: Vec<Process>,

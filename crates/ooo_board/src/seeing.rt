@@ -30,10 +30,10 @@ pub(crate) fn sights(
     watched: &[Watched],
     at: Stamp,
 ) -> Result<Vec<Seen>, AllocError>
-    requires may { MayAsk design.now bank.now watched.now }
+    requires may { MayAsk design.now bank.now at watched.now }
     requires fits { All FitsChannel design.now.channels }
     requires ascending { Ascend watched.now }
-    ensures seen { IfOk result (λ seen. (ops : Operations) → IsAskedAt design.now bank.now ops →
+    ensures seen { IfOk result (λ seen. (ops : Operations) → IsAskedAt design.now bank.now at ops →
         seen.items ≡ sights_of at ops design.now.channels watched.now) }
     ensures few { IfOk result (λ seen. All IsFew seen.items) }
     ensures ascending { IfOk result (λ seen. SeenAscend seen.items) }
@@ -53,8 +53,8 @@ fn sight(
     watched: Watched,
     at: Stamp,
 ) -> Result<Seen, AllocError>
-    requires may { MayAsk design.now bank.now (watched ∷ []) }
-    ensures { IfOk result (λ seen. (ops : Operations) → IsAskedAt design.now bank.now ops →
+    requires may { MayAsk design.now bank.now at (watched ∷ []) }
+    ensures { IfOk result (λ seen. (ops : Operations) → IsAskedAt design.now bank.now at ops →
         seen ∷ [] ≡ sights_of at ops design.now.channels (watched ∷ [])) }
 {
     let c = watched.channel;

@@ -45,6 +45,7 @@ impl Core {
         let fronts = first_fronts(alloc, processes.as_slice())?;
         Ok(Core {
             bank: Bank::make(alloc, design)?,
+            below: Stamp::default(),
             variables: first_variables(alloc, design.variables.as_slice())?,
             states: vec![in alloc; State::Waiting; processes.len()]?,
             processes,

@@ -5,6 +5,7 @@ ghost use Rattle.ooo_schedules.specs.Design.{Wait, sooner, soonest};
 ghost use Rattle.ooo_schedules.specs.Program.{design};
 ghost use Rattle.ooo_schedules.specs.Tables.{program};
 ghost use Rattle.ooo_time.specs.declared.stamp.Stamp.{Stamp as StampSpec};
+ghost use Rattle.ooo_channels.specs.Operations.{later_of};
 ghost use Rattle.ooo_dispatch.specs.Banks.{first_on};
 ghost use Rattle.ooo_dispatch.specs.Boards.{Board};
 ghost use Rattle.ooo_dispatch.specs.Rules.{Rules, tables};
@@ -95,7 +96,7 @@ impl Core {
         let State::Waiting = self.states[q as usize] else {
             return;
         };
-        let front = front_by(&self.bank, &self.processes[q as usize].waiting);
+        let front = front_by(&self.bank, self.below, &self.processes[q as usize].waiting);
         self.give(tables, links, q, front);
     }
 
@@ -126,17 +127,19 @@ fn are_same(one: Option<Front>, other: Option<Front>) -> bool
     one == other
 }
 
-// The front of a process that waits so, as the bank tells it.
-fn front_by(bank: &Bank, waiting: &Option<Waiting>) -> Option<Front>
-    requires { (r : Rules) × (b : Board r) × MayAskFront r b bank.now (maybe_wait waiting.now) }
-    ensures { (r : Rules) (b : Board r) → MayAskFront r b bank.now (maybe_wait waiting.now) →
+// The front of a process that waits so, as the bank tells it, which forgot what was before a stamp.
+fn front_by(bank: &Bank, below: Stamp, waiting: &Option<Waiting>) -> Option<Front>
+    requires { (r : Rules) × (b : Board r)
+        × MayAskFront r b bank.now below (maybe_wait waiting.now) }
+    ensures { (r : Rules) (b : Board r) →
+        MayAskFront r b bank.now below (maybe_wait waiting.now) →
         maybe_front result ≡ front_told r b (maybe_wait waiting.now) }
 {
     let Some(waiting) = waiting else {
         return None;
     };
     let since = waiting.since.unwrap_or(Stamp::default());
-    let fired = soonest(bank, waiting.events.as_slice(), since);
+    let fired = soonest(bank, waiting.events.as_slice(), later(since, below));
     let stamp = sooner(waiting.timeout, fired)?;
     Some(Front {
         segment: waiting.segment,
@@ -144,12 +147,12 @@ fn front_by(bank: &Bank, waiting: &Option<Waiting>) -> Option<Front>
     })
 }
 
-// The first stamp after `since` at which one of these events fires.
-fn soonest(bank: &Bank, events: &[u32], since: Stamp) -> Option<Stamp>
+// The first stamp after `from` at which one of these events fires.
+fn soonest(bank: &Bank, events: &[u32], from: Stamp) -> Option<Stamp>
     requires { (r : Rules) × (b : Board r) × (w : Wait StampSpec)
-        × IsAsked r b bank.now w events.now since }
+        × IsAsked r b bank.now w events.now from }
     ensures { (r : Rules) (b : Board r) (w : Wait StampSpec) →
-        IsAsked r b bank.now w events.now since →
+        IsAsked r b bank.now w events.now from →
         result
         ≡ soonest (design (program (tables r))) (map (λ e. first_on r b e w.since) w.events) }
 {
@@ -157,7 +160,7 @@ fn soonest(bank: &Bank, events: &[u32], since: Stamp) -> Option<Stamp>
     let mut i = events.len();
     'events: while i > 0 {
         i -= 1;
-        first = sooner(bank.first(events[i], since), first);
+        first = sooner(bank.first(events[i], from), first);
     }
     first
 }
@@ -171,4 +174,11 @@ fn sooner(one: Option<Stamp>, other: Option<Stamp>) -> Option<Stamp>
         (Some(one), _) => Some(one),
         (None, other) => other,
     }
+}
+
+// The later of two stamps.
+pub(crate) fn later(one: Stamp, other: Stamp) -> Stamp
+    ensures { result ≡ later_of one other }
+{
+    if one.is_before(other) { other } else { one }
 }

@@ -1,10 +1,10 @@
-use Rattle.std.proofs.Common.{◌≡◌, ◌≤◌, ◌<◌, ◌+◌, ◌*◌, ◌++◌, List, [], ◌∷◌, Some, ap, subst, ◌∙◌, arith, inr, if◌then◌else◌, ◌^◌}
+use Rattle.std.proofs.Common.{◌≡◌, ◌≤◌, ◌<◌, ◌+◌, ◌*◌, ◌++◌, List, [], ◌∷◌, Some, ap, subst, sym, ◌∙◌, arith, inr, if◌then◌else◌, ◌^◌}
 use Rattle.std.specs.Prelude.{is_some}
 use Rattle.ooo_schedules.specs.Model.{count, front_at, last, running_or}
 use Rattle.ooo_dispatch.specs.declared.step.Step.{Step}
 use Rattle.ooo_dispatch.specs.declared.step.Step.TheVariants.{Commit}
 use Rattle.ooo_dispatch.specs.Banks.{FrontsAreTold}
-use Rattle.ooo_dispatch.specs.Boards.{IsLawful, model}
+use Rattle.ooo_dispatch.specs.Boards.{IsFront, IsLawful, model}
 use Rattle.ooo_dispatch.specs.Least.{rules_of}
 use Rattle.ooo_dispatch.specs.Reach.{FrontsInReach}
 use Rattle.ooo_dispatch.specs.Rules.{has, access_of}
@@ -46,6 +46,7 @@ returns c = λ design limits t steps p j stands out.
       counted = subst (λ n. n < 2 ^ 128) once (few_times (count p (once_committed r s j).board.log) limits.stop.0 limits.deltas ready.stop stands.deltas times);
       aligned = c.tables_are_aligned.ensures design t ready.tables;
       access_count = rules.access_count;
+      front = front;
       alone = λ k i e. alone r s.board here p j k is_out i e;
       may = may;
       countable = record { time = omega arith; delta = omega arith };
@@ -55,6 +56,7 @@ returns c = λ design limits t steps p j stands out.
       cells = λ x. subst (λ (y : Replay r). cells_on r y.board x ≡ (if has (access_of r j.segment).written x then cells_left r j x else cells_on r s.board x)) (step_is r s p j out) (c.commits_put_back.ensures design limits t ready steps stands.lawful p j out x);
       stays = λ w leaves. c.fronts_stay.ensures design limits t ready steps stands.lawful p j out w leaves;
       waits = own_wait r sound s.board here;
+      walks = λ q g is. c.commits_walk.ensures design limits t ready steps stands.lawful p j out q g (subst (λ (x : Replay r). IsFront r x.board q g) (sym (step_is r s p j out)) is);
       told = subst (FrontsAreTold r t.advance) same (c.fronts_are_told.ensures design limits t ready more goes);
       in_reach = subst (FrontsInReach r t.advance) same (c.fronts_in_reach.ensures design limits t ready more goes);
     }

@@ -15,10 +15,10 @@ pub returns-clause-few : goal.returns-clause-few
 returns-clause-few c =
     let may = c.requires.may in
     subst (All IsFew) (sym (returns-clause-seen c may.ops may.asked))
-    (all_few c.args.design.now c.args.bank.now may.ops may.asked c.args.at c.args.watched.now c.requires.fits may.there)
+    (all_few c.args.design.now c.args.bank.now c.args.at may.ops may.asked c.args.watched.now c.requires.fits may.there)
 
 pub returns-clause-ascending : goal.returns-clause-ascending
 returns-clause-ascending c =
     let may = c.requires.may in
     subst SeenAscend (sym (returns-clause-seen c may.ops may.asked))
-    (all_ascend c.args.design.now c.args.bank.now may.ops may.asked c.args.at c.args.watched.now c.requires.ascending)
+    (all_ascend c.args.design.now c.args.bank.now c.args.at may.ops may.asked c.args.watched.now c.requires.ascending)

@@ -6,6 +6,7 @@ use Rattle.ooo_dispatch.specs.Least.{rules_of}
 use Rattle.ooo_dispatch.specs.Rules.{is_stop}
 use Rattle.ooo_board.specs.Committing.{once_committed}
 use Rattle.ooo_board.specs.Cores.{IsCore, after, maybe_wait}
+use Rattle.ooo_board.specs.Forgetting.{forgetting}
 use Rattle.ooo_board.specs.declared.cores.Core.{Core}
 use Rattle.ooo_channels.specs.Bank.{IsBankAfter}
 use Rattle.ooo_channels.specs.Conditions.{MayApplyAll}
@@ -30,7 +31,7 @@ apply-requires-clause-may c =
     let s = after design limits c.args.tables.now steps in
     let job = may.gives.job in
     let keep = c.commits_keep.ensures design limits c.args.tables.now steps c.args.done.process job may.has.stands may.gives.out in
-    (operations_on r s.board, may.has.core.has_bank, may_apply design limits c.args.tables.now s c.args.done.process job keep c.args.done may.gives.is_done c.args.at may.stamp c.args.self.now may.has.core c.as_slice-effects.result.now c.as_slice-effects.ensures.value)
+    (forgetting c.args.self.now.below (operations_on r s.board), may.has.core.has_bank.applied, may_apply design limits c.args.tables.now s c.args.done.process job keep c.args.done may.gives.is_done c.args.at may.stamp c.args.self.now may.has.core c.as_slice-effects.result.now c.as_slice-effects.ensures.value)
 
 pub apply-requires-clause-countable : goal.apply-requires-clause-countable
 apply-requires-clause-countable c =
@@ -147,6 +148,7 @@ refresh-requires-clause-waking c =
     let keep = c.commits_keep.ensures design limits c.args.tables.now steps c.args.done.process job may.has.stands may.gives.out in
     let c1 : Core = (record {
       bank = c.apply.new.self;
+      below = c.args.self.now.below;
       variables = c.move_back.new.variables;
       processes = with_item c.args.self.now.processes c.args.done.process c.leave.new.self;
       states = with_item c.args.self.now.states c.args.done.process Waiting;
@@ -157,6 +159,7 @@ refresh-requires-clause-waking c =
     }) in
     let takes : TakesIn r s c.args.done.process job c.args.done c.args.at c.args.self.now c1 c.index_mut.result.now c.leave.new.self = record {
       bank = λ ops h m. subst (λ fs. IsBankAfter c.apply.new.self (after_effects c.args.at ops fs)) c.as_slice-effects.ensures.value (c.apply.ensures.after ops h (subst (λ fs. MayApplyAll ops c.args.at fs) (sym c.as_slice-effects.ensures.value) m));
+      below = refl;
       variables = c.move_back.ensures;
       was = stands c.args.self.now.processes.items c.args.done.process c.index_mut.result.now (process_there design limits c.args.tables.now s c.args.done.process job keep c.args.done may.gives.is_done c.args.at may.stamp c.args.self.now may.has.core) c.index_mut.ensures.value;
       processes = refl;
@@ -185,6 +188,7 @@ wake-requires c =
     let keep = c.commits_keep.ensures design limits c.args.tables.now steps c.args.done.process job may.has.stands may.gives.out in
     let c1 : Core = (record {
       bank = c.apply.new.self;
+      below = c.args.self.now.below;
       variables = c.move_back.new.variables;
       processes = with_item c.args.self.now.processes c.args.done.process c.leave.new.self;
       states = with_item c.args.self.now.states c.args.done.process Waiting;
@@ -195,6 +199,7 @@ wake-requires c =
     }) in
     let takes : TakesIn r s c.args.done.process job c.args.done c.args.at c.args.self.now c1 c.index_mut.result.now c.leave.new.self = record {
       bank = λ ops h m. subst (λ fs. IsBankAfter c.apply.new.self (after_effects c.args.at ops fs)) c.as_slice-effects.ensures.value (c.apply.ensures.after ops h (subst (λ fs. MayApplyAll ops c.args.at fs) (sym c.as_slice-effects.ensures.value) m));
+      below = refl;
       variables = c.move_back.ensures;
       was = stands c.args.self.now.processes.items c.args.done.process c.index_mut.result.now (process_there design limits c.args.tables.now s c.args.done.process job keep c.args.done may.gives.is_done c.args.at may.stamp c.args.self.now may.has.core) c.index_mut.ensures.value;
       processes = refl;
@@ -219,6 +224,7 @@ returns c = λ design limits steps links may.
     let keep = c.commits_keep.ensures design limits c.args.tables.now steps c.args.done.process job may.has.stands may.gives.out in
     let c1 : Core = (record {
       bank = c.apply.new.self;
+      below = c.args.self.now.below;
       variables = c.move_back.new.variables;
       processes = with_item c.args.self.now.processes c.args.done.process c.leave.new.self;
       states = with_item c.args.self.now.states c.args.done.process Waiting;
@@ -229,6 +235,7 @@ returns c = λ design limits steps links may.
     }) in
     let takes : TakesIn r s c.args.done.process job c.args.done c.args.at c.args.self.now c1 c.index_mut.result.now c.leave.new.self = record {
       bank = λ ops h m. subst (λ fs. IsBankAfter c.apply.new.self (after_effects c.args.at ops fs)) c.as_slice-effects.ensures.value (c.apply.ensures.after ops h (subst (λ fs. MayApplyAll ops c.args.at fs) (sym c.as_slice-effects.ensures.value) m));
+      below = refl;
       variables = c.move_back.ensures;
       was = stands c.args.self.now.processes.items c.args.done.process c.index_mut.result.now (process_there design limits c.args.tables.now s c.args.done.process job keep c.args.done may.gives.is_done c.args.at may.stamp c.args.self.now may.has.core) c.index_mut.ensures.value;
       processes = refl;

@@ -52,6 +52,7 @@ returns-clause-out c steps core may =
     let slots = c.replace-slots.ensures.value ∙ kept.slots may.may.idle in
     let next = core_after design limits t steps p f may old _ core.core (record {
       bank = refl;
+      below = refl;
       variables = sym (ap (λ (x : List (List Value) × List Carried). x.0) taken);
       process = process;
       left = record { slots = c.replace-slots.new.dest; waiting = process.waiting; activations = process.activations };

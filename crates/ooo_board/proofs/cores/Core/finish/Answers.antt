@@ -5,6 +5,7 @@ use Rattle.ooo_dispatch.specs.Banks.{operations_on}
 use Rattle.ooo_dispatch.specs.Least.{rules_of}
 use Rattle.ooo_dispatch.specs.ReadOff.{break_shown, counted_before, end_at, ended_by, latest_stamp, precedes, stop_shown}
 use Rattle.ooo_board.specs.Cores.{after}
+use Rattle.ooo_board.specs.Forgetting.{forgetting}
 use Rattle.ooo_board.specs.Finishing.{AreHistoriesBy, break_of, ends_of, shows}
 use Rattle.ooo_board.proofs.Concluding.{asked, channels_are, run_shows, stop_low}
 use Rattle.ooo_board.proofs.cores.Core.finish.Goals as goal
@@ -21,7 +22,7 @@ histories-requires c =
     let off = c.reports_are_read_off.ensures design limits t f.has.stands.ready steps f.has.stands.lawful in
     let count = c.len.ensures in
     let same = channels_are design limits t steps c.args.self.now f off in
-    (operations_on (rules_of design limits t) (after design limits t steps).board, asked design limits t steps c.args.self.now f off, omega (arith, count, same))
+    (forgetting c.args.self.now.below (operations_on (rules_of design limits t) (after design limits t steps).board), asked design limits t steps c.args.self.now f off, omega (arith, count, same))
 
 pub returns : goal.returns
 returns c = λ limits t steps found f run_is.
@@ -29,7 +30,7 @@ returns c = λ limits t steps found f run_is.
     let core = c.args.self.now in
     let next = c.least-next.result in
     let r = rules_of design limits t in
-    let ops = operations_on r (after design limits t steps).board in
+    let ops = forgetting core.below (operations_on r (after design limits t steps).board) in
     let off = c.reports_are_read_off.ensures design limits t f.has.stands.ready steps f.has.stands.lawful in
     let by = counted_before core.cut.deltas (ends_of core.cut next) in
     let shown = c.put_in_order.new.pieces.items in

@@ -4,7 +4,7 @@ use Rattle.ooo_dispatch.specs.Steps.{nothing_done}
 use Rattle.ooo_fronts.specs.declared.choice.State.TheVariants.{Waiting}
 use Rattle.ooo_fronts.specs.Fronts.{AreFit, AreFrontsOf}
 use Rattle.ooo_board.specs.Starting.{first_cells, first_front}
-use Rattle.ooo_board.proofs.Beginning.{few_processes, first_fronts_are, first_fronts_fit, first_states_are, first_variables_are}
+use Rattle.ooo_board.proofs.Beginning.{few_processes, first_fronts_are, first_fronts_fit, first_states_are, first_variables_are, has_bank_first}
 use Rattle.ooo_board.proofs.cores.Core.make.Goals as goal
 
 pub make-requires-2-clause-few : goal.make-requires-2-clause-few
@@ -35,7 +35,7 @@ returns c =
     let states_are : c.in_ok-vec.field-0.items ≡ replicate (length processes) Waiting = c.in_ok-vec.ensures.items_if_clones_equal (λ y h. h) ∙ ap (λ n. replicate n Waiting) count in
     let fronts_are : fronts.fronts ≡ map first_front processes = c.in_ok-make-2.ensures.fronts ∙ c.in_ok-fronts.ensures ∙ ap (map first_front) c.as_slice.ensures.value in
     record {
-      has_bank = c.in_ok-make.ensures;
+      has_bank = has_bank_first r c.in_ok-make.field-0 c.default.result c.default.ensures c.in_ok-make.ensures;
       has_variables = first_variables_are r c.in_ok-first_variables.field-0.items (c.in_ok-first_variables.ensures ∙ ap first_cells c.as_slice-2.ensures);
       has_processes = are;
       has_states = first_states_are r (length processes) c.in_ok-vec.field-0.items are.counted states_are;

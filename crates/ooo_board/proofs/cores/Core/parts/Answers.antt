@@ -6,6 +6,7 @@ use Rattle.ooo_dispatch.specs.Least.{rules_of}
 use Rattle.ooo_dispatch.specs.Rules.{access_of}
 use Rattle.ooo_board.specs.Carrying.{bare, carried_from}
 use Rattle.ooo_board.specs.Cores.{after}
+use Rattle.ooo_board.specs.Forgetting.{forgetting}
 use Rattle.ooo_board.specs.Seeing.{Ascend, MayAsk, sights_of}
 use Rattle.ooo_board.proofs.Handing.{access_is, access_within, allowed_at, asked, may_ask, read_is, read_there, read_within, seen_is, watched_is, watched_there}
 use Rattle.ooo_board.proofs.Watching.{watched_ascend}
@@ -40,8 +41,8 @@ pub sights-requires-clause-may : goal.sights-requires-clause-may
 sights-requires-clause-may c =
     let h = allowed_at c.args.design.now c.args.tables.now c.args.self.now c.args.front c.parts_are_at_hand.ensures c.requires.may in
     let is = watched_is c.args.design.now h.limits c.args.tables.now h.steps h.p c.args.front h.core.stands h.hand c.args.links.now c.requires.links c.index-2.result.now c.index-2.ensures in
-    subst (MayAsk c.args.design.now c.args.self.now.bank) (sym (c.as_slice-watched.ensures ∙ is))
-    (may_ask c.args.design.now h.limits c.args.tables.now h.steps h.p c.args.front h.core.stands h.hand c.args.self.now.bank h.core.core.has_bank)
+    subst (MayAsk c.args.design.now c.args.self.now.bank c.args.front.stamp) (sym (c.as_slice-watched.ensures ∙ is))
+    (may_ask c.args.design.now h.limits c.args.tables.now h.steps h.p c.args.front h.core.stands h.hand h.may c.args.self.now.bank c.args.self.now.below h.core.core.has_bank)
 
 pub sights-requires-clause-ascending : goal.sights-requires-clause-ascending
 sights-requires-clause-ascending c =
@@ -59,8 +60,9 @@ returns c limits steps p core may =
     let access = access_is design limits t steps p f stands hand c.as_slice.result.now c.index-as_slice-g.result c.as_slice.ensures c.index-as_slice-g.is in
     let read = read_is design limits t steps p f stands hand c.args.links.now c.requires.links c.index.result.now c.index.ensures in
     let watched = watched_is design limits t steps p f stands hand c.args.links.now c.requires.links c.index-2.result.now c.index-2.ensures in
-    let ops = operations_on (rules_of design limits t) (after design limits t steps).board in
-    let told = c.in_ok-seen.ensures.seen ops (asked design limits t steps p f stands hand c.args.self.now.bank core.core.has_bank) in
+    let below = c.args.self.now.below in
+    let ops = forgetting below (operations_on (rules_of design limits t) (after design limits t steps).board) in
+    let told = c.in_ok-seen.ensures.seen ops (asked design limits t steps p f stands hand may c.args.self.now.bank below core.core.has_bank) in
     record {
       owned = c.in_ok-owned.ensures ∙ ap bare (c.as_slice-written.ensures ∙ ap (λ (a : Access). a.written) (sym c.index-as_slice-g.is ∙ access));
       copied =
@@ -68,7 +70,7 @@ returns c limits steps p core may =
           ∙ ap (carried_from c.args.self.now.variables.items) (c.as_slice-read.ensures ∙ read);
       seen =
           told ∙ ap (sights_of f.stamp ops design.channels) (c.as_slice-watched.ensures ∙ watched)
-          ∙ seen_is design limits t steps p f stands hand;
+          ∙ seen_is design limits t steps p f stands hand below;
       few = c.in_ok-seen.ensures.few;
       ascending = c.in_ok-seen.ensures.ascending;
     }

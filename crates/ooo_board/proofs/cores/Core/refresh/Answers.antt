@@ -17,8 +17,12 @@ pub front_by-front-requires : goal.front_by-front-requires
 front_by-front-requires c =
     let w = c.requires.waking in
     let waking = w.2.waking in
+    let states = waking.has_states.counted in
+    let processes = waking.has_processes.counted in
+    let within = c.requires.within in
+    let waits = stands c.args.self.now.states.items c.args.q c.index.result.now (omega arith) c.index.ensures ∙ ap Some c.in-Waiting.is in
     let at = stands c.args.self.now.processes.items c.args.q c.index-2.result.now c.requires.within c.index-2.ensures in
-    (w.0, w.1.board, may_ask_front w.0 c.args.tables.now w.1 c.args.self.now c.args.q waking c.index-2.result.now at)
+    (w.0, w.1.board, may_ask_front w.0 c.args.tables.now w.1 c.args.self.now c.args.q waking c.index-2.result.now at waits)
 
 pub give-requires-clause-new : goal.give-requires-clause-new
 give-requires-clause-new c =
@@ -29,7 +33,7 @@ give-requires-clause-new c =
     let within = c.requires.within in
     let waits = stands c.args.self.now.states.items c.args.q c.index.result.now (omega arith) c.index.ensures ∙ ap Some c.in-Waiting.is in
     let at = stands c.args.self.now.processes.items c.args.q c.index-2.result.now c.requires.within c.index-2.ensures in
-    let may = may_ask_front w.0 c.args.tables.now w.1 c.args.self.now c.args.q waking c.index-2.result.now at in
+    let may = may_ask_front w.0 c.args.tables.now w.1 c.args.self.now c.args.q waking c.index-2.result.now at waits in
     fits w.0 c.args.tables.now w.1 c.args.self.now c.args.q waking c.index-2.result.now at waits c.front_by-front.result (c.front_by-front.ensures w.0 w.1.board may)
 
 pub returns : goal.returns
@@ -41,6 +45,6 @@ returns c = λ r s may_wake.
     let within = c.requires.within in
     let waits = stands c.args.self.now.states.items c.args.q c.index.result.now (omega arith) c.index.ensures ∙ ap Some c.in-Waiting.is in
     let at = stands c.args.self.now.processes.items c.args.q c.index-2.result.now c.requires.within c.index-2.ensures in
-    let may = may_ask_front r c.args.tables.now s c.args.self.now c.args.q waking c.index-2.result.now at in
+    let may = may_ask_front r c.args.tables.now s c.args.self.now c.args.q waking c.index-2.result.now at waits in
     refreshed r c.args.tables.now s c.args.self.now c.args.q waking c.index-2.result.now at waits c.front_by-front.result (c.front_by-front.ensures r s.board may)
     c.give.new.self c.give.ensures.others c.give.ensures.fronts c.give.ensures.fit c.give.ensures.counts (omega arith)
