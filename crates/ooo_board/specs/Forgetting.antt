@@ -9,6 +9,8 @@ use Rattle.ooo_schedules.specs.Model.{Front}
 use Rattle.ooo_dispatch.specs.Banks.{operations_on}
 use Rattle.ooo_dispatch.specs.Boards.{Board, IsFront}
 use Rattle.ooo_dispatch.specs.Rules.{Rules}
+use Rattle.ooo_fronts.specs.Fronts.{IsLeastOf}
+use Rattle.ooo_board.specs.declared.cores.Core.{Core}
 
 -- the same operations, where what was before a stamp is forgotten
 abbrev pub forgetting : (below : Stamp) → Operations → Operations
@@ -27,3 +29,7 @@ pub record HasBank (r : Rules) (b : Board r) (bank : BankState) (below : Stamp) 
 abbrev pub IsJustBefore : (at : Stamp) → Option Stamp → Type 0
 IsJustBefore at None = (u : Stamp) → ¬ IsBefore u at
 IsJustBefore at (Some s) = IsBefore s at × ((u : Stamp) → u.delta < 2 ^ 32 → IsBefore u at → ¬ IsBefore s u)
+
+-- all is forgotten that may be: no such stamp before all fronts is after the one before which the bank forgets
+abbrev pub HasForgotten : Core → Type 0
+HasForgotten c = (least u : Stamp) → IsLeastOf c.fronts.fronts (Some least) → u.delta < 2 ^ 32 → IsBefore u least → ¬ IsBefore c.below u

@@ -269,6 +269,7 @@ impl Board {
         }
         self.core
             .commit(&self.tables, &self.links, done, front.stamp);
+        self.core.forget_now_and_then();
         self.schedule.push_reserved(Step::Commit(p));
         self.running -= 1;
         Ok(())

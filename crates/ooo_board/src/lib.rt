@@ -11,6 +11,7 @@ mod carrying;
 mod committing;
 mod cores;
 mod finishing;
+mod forgetting;
 pub mod law;
 mod laws;
 mod links;

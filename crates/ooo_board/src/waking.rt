@@ -5,7 +5,6 @@ ghost use Rattle.ooo_schedules.specs.Design.{Wait, sooner, soonest};
 ghost use Rattle.ooo_schedules.specs.Program.{design};
 ghost use Rattle.ooo_schedules.specs.Tables.{program};
 ghost use Rattle.ooo_time.specs.declared.stamp.Stamp.{Stamp as StampSpec};
-ghost use Rattle.ooo_channels.specs.Operations.{later_of};
 ghost use Rattle.ooo_dispatch.specs.Banks.{first_on};
 ghost use Rattle.ooo_dispatch.specs.Boards.{Board};
 ghost use Rattle.ooo_dispatch.specs.Rules.{Rules, tables};
@@ -18,6 +17,7 @@ ghost use Rattle.ooo_board.specs.Cores.{maybe_wait};
 ghost use Rattle.ooo_board.specs.Waking.{IsAsked, IsThere, MayAskFront, MayWake, Woken, EffectsReach, EventsReach, Reaches, ReachesAll, front_told};
 
 use crate::cores::Core;
+use crate::forgetting::later;
 use crate::links::Links;
 use crate::process::Waiting;
 use ooo_channels::Bank;
@@ -174,11 +174,4 @@ fn sooner(one: Option<Stamp>, other: Option<Stamp>) -> Option<Stamp>
         (Some(one), _) => Some(one),
         (None, other) => other,
     }
-}
-
-// The later of two stamps.
-pub(crate) fn later(one: Stamp, other: Stamp) -> Stamp
-    ensures { result ≡ later_of one other }
-{
-    if one.is_before(other) { other } else { one }
 }

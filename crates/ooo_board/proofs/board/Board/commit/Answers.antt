@@ -1,10 +1,11 @@
 -- What the job did is taken in, and it is out no more; the rest are laws.
 use Rattle.std.proofs.Common.{◌≡◌, ◌≤◌, ◌∙◌, ap, arith, refl, subst, sym}
 use Rattle.ooo_dispatch.specs.declared.step.Step.TheVariants.{Commit}
+use Rattle.ooo_dispatch.specs.Steps.{after_step}
 use Rattle.ooo_board.specs.Boards.{LeavesOthers, rules, running_in, state, with_step}
 use Rattle.ooo_board.specs.Cores.{MayTakeIn}
 use Rattle.ooo_board.specs.Jobs.{Gives}
-use Rattle.ooo_board.proofs.Ending.{again, at_stamp, ended, front_within, gives_some, has_front, none_back, on_ok, others_back, runs_one}
+use Rattle.ooo_board.proofs.Ending.{again, at_stamp, ended, front_within, gives_some, has_front, job_within, none_back, on_ok, others_back, runs_one}
 use Rattle.ooo_board.proofs.Keeping.{leaves_others}
 use Rattle.ooo_board.proofs.Steps.{IsKept, view_of, view_with}
 use Rattle.ooo_board.proofs.board.Board.commit.Goals as goal
@@ -39,6 +40,17 @@ commit-requires c =
     let take : MayTakeIn b.design b.limits b.tables b.schedule c.reserve.new.self c.args.done c.in-Some.front.stamp = record { has = has; gives = gives; stamp = at_stamp b i.core c.self.invariant.has c.laws.ensures c.args.done gives c.in-Some.front (sym c.in-Some.ensures) } in
     record { room = on_ok c.reserve.result c.if-is_err.ensures.value c.reserve.ensures.room; may = (b.design, b.limits, b.schedule, c.self.invariant.links_are, take) }
 
+pub forget_now_and_then-requires : goal.forget_now_and_then-requires
+forget_now_and_then-requires c =
+    let i = c.self.inside in
+    let b = view_of i.design.value i.limits i.tables i.schedule in
+    let gives : Gives (rules b) (state b) c.args.done = subst (λ x. Gives (rules x) (state x) c.args.done) (sym c.self.view_is) c.requires in
+    let has = c.reserve.ensures.kept b.design b.limits b.tables b.schedule c.self.invariant.has in
+    let take : MayTakeIn b.design b.limits b.tables b.schedule c.reserve.new.self c.args.done c.in-Some.front.stamp = record { has = has; gives = gives; stamp = at_stamp b i.core c.self.invariant.has c.laws.ensures c.args.done gives c.in-Some.front (sym c.in-Some.ensures) } in
+    let n = (c.commit.ensures b.design b.limits b.schedule c.self.invariant.links_are take).has_states.counted in
+    let within = job_within b i.core c.self.invariant.has c.laws.ensures c.args.done.process (gives_some b i.core c.self.invariant.has c.laws.ensures c.args.done gives) in
+    omega (arith, n, within)
+
 pub push_reserved-requires : goal.push_reserved-requires
 push_reserved-requires c =
     let i = c.self.inside in
@@ -72,8 +84,8 @@ invariant_of-self-2 c =
     let take : MayTakeIn b.design b.limits b.tables b.schedule c.reserve.new.self c.args.done c.in-Some.front.stamp = record { has = has; gives = gives; stamp = at_stamp b i.core c.self.invariant.has c.laws.ensures c.args.done gives c.in-Some.front (sym c.in-Some.ensures) } in
     let whole = again b.design b.limits b.tables i.links i.core c.reserve.new.self i.schedule i.running i.lost c.self.invariant has in
     let some = gives_some b i.core c.self.invariant.has c.laws.ensures c.args.done gives in
-    ended b i.links c.reserve.new.self c.commit.new.self i.schedule c.push_reserved.new.self i.running i.lost i.lost (Commit c.args.done.process) c.args.done.process whole refl c.laws.ensures some some
-    (c.commit.ensures b.design b.limits b.schedule c.self.invariant.links_are take)
+    ended b i.links c.reserve.new.self c.forget_now_and_then.new.self i.schedule c.push_reserved.new.self i.running i.lost i.lost (Commit c.args.done.process) c.args.done.process whole refl c.laws.ensures some some
+    (c.forget_now_and_then.ensures.kept b.design b.limits b.tables (after_step (rules b) (state b) (Commit c.args.done.process)) (c.commit.ensures b.design b.limits b.schedule c.self.invariant.links_are take))
     (others_back (rules b) (state b) c.args.done.process gives.job gives.out) (none_back (rules b) (state b) c.args.done.process gives.job gives.out)
     c.push_reserved.ensures.items c.push_reserved.ensures.len c.push_reserved.ensures.capacity c.self.invariant.is_lost
 
