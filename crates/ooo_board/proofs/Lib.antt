@@ -12,7 +12,7 @@ pub mod Beginning
 pub mod Watching
 pub mod Forgotten
 pub mod Past
-pub mod Forgot
+pub mod Remaining
 pub mod Asking
 pub mod Refreshing
 pub mod Committed

@@ -1,6 +1,6 @@
 use Rattle.std.proofs.Common.{ap}
 use Rattle.ooo_board.specs.declared.cores.Core.{Core}
-use Rattle.ooo_board.proofs.Forgot.{first_forgets, forgotten_core, has_forgotten}
+use Rattle.ooo_board.proofs.Remaining.{first_forgets, forgotten_core, has_forgotten}
 use Rattle.ooo_board.proofs.cores.Core.forget.Goals as goal
 
 pub returns-in_default-just_before-clause-forgotten : goal.returns-in_default-just_before-clause-forgotten
