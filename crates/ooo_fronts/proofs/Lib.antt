@@ -6,6 +6,7 @@ pub mod Totals
 pub mod Reached
 pub mod Orders
 pub mod Holding
+pub mod Timing
 pub mod Counted
 pub mod Mending
 pub mod Ruling

@@ -77,8 +77,9 @@ pub(crate) fn maybe_holds_of(
     }
 }
 
-// By how many segments the front g holds the front f of process p up. Only those to which it leads can, and only those that
-// clash strictly with f's, so it goes over whichever are fewer.
+// By how many segments the front g holds the front f of process p up. It leads to nothing before its own stamp, so to a front
+// before that by none. Only segments to which it leads can, and only those that clash strictly with f's, so it goes over
+// whichever are fewer.
 pub(crate) fn holds_of(tables: &Tables, reaches: &Reaches, g: Front, p: u32, f: Front) -> u32
     requires aligned { AreAligned tables.now }
     requires reaches { AreReaches tables.now reaches.now }
@@ -87,6 +88,9 @@ pub(crate) fn holds_of(tables: &Tables, reaches: &Reaches, g: Front, p: u32, f: 
     ensures exact { result ≡ holds_of tables.now g p f }
     ensures few { result ≤ length tables.now.graph.segments }
 {
+    if f.stamp.is_before(g.stamp) {
+        return 0;
+    }
     let leads = reaches.leads(g.segment);
     let clashing = tables.clash.clashing(f.segment);
     if leads.len() <= clashing.len() {

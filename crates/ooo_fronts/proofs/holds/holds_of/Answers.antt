@@ -1,8 +1,9 @@
--- By those to which the one leads, or those that clash strictly with the other.
+-- None before the one's stamp; else by those to which the one leads, or those that clash strictly with the other.
 use Rattle.std.proofs.Common.{sym, subst, arith}
 use Rattle.ooo_fronts.specs.Reaching.{IsListOf, LeadsTo}
 use Rattle.ooo_fronts.proofs.Counted.{few_hold}
 use Rattle.ooo_fronts.proofs.Holding.{clashing_are_all, leads_are_all}
+use Rattle.ooo_fronts.proofs.Timing.{none_behind}
 use Rattle.ooo_fronts.proofs.holds.holds_of.Goals as goal
 
 pub count_among-requires-clause-all : goal.count_among-requires-clause-all
@@ -28,3 +29,8 @@ returns-else-leads-clashing-clause-few c =
     let few = few_hold c.args.tables.now c.args.g c.args.p c.args.f in
     let is = c.count_among-else-leads-clashing.ensures in
     omega (arith, few, is)
+
+pub returns-then-is_before-clause-exact : goal.returns-then-is_before-clause-exact
+returns-then-is_before-clause-exact c =
+    let a = c.args in
+    sym (none_behind a.tables.now a.g a.p a.f (c.is_before.ensures.0 c.if-is_before.true))

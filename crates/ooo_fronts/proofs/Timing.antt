@@ -1,0 +1,50 @@
+-- A front leads to nothing before its own stamp, so it holds no front up that is before it.
+use Rattle.std.proofs.Common.{◌≡◌, refl, sym, ap, subst, arith, ℕ, ◌⊎◌, inl, inr, ⊎_elim, Bool, true, false, ◌&&◌, if◌then◌else◌, ◌==◌, ◌+◌, nat_lt, Option, None, Some, length}
+use Rattle.std.proofs.lemmas.Bool.{eqb-false}
+use Rattle.std.specs.Prelude.{is_some}
+use Rattle.ooo_time.specs.declared.stamp.Stamp.{Stamp}
+use Rattle.ooo_time.specs.declared.delay.Delay.{Delay}
+use Rattle.ooo_time.specs.Delays.{advanced}
+use Rattle.ooo_time.specs.Stamps.{IsBefore, is_before}
+use Rattle.ooo_meaning.specs.World.{same_stamp}
+use Rattle.ooo_conflicts.specs.Kinds.{is_clash, kind_at}
+use Rattle.ooo_tables.specs.declared.tables.Tables.{Tables}
+use Rattle.ooo_fronts.specs.declared.front.Front.{Front}
+use Rattle.ooo_fronts.specs.Fronts.{process_in}
+use Rattle.ooo_fronts.specs.Holds.{clashes_at, hold_at, holds_of}
+use Rattle.ooo_fronts.proofs.Holding.{found_by}
+use Rattle.ooo_fronts.proofs.Orders.{is_yes, yes_same}
+use Rattle.ooo_fronts.proofs.Places.{transitive}
+use Rattle.ooo_fronts.proofs.Totals.{none_counted}
+
+-- a delay leads to no earlier stamp
+pub no_earlier : (s : Stamp) (d : Delay) → IsBefore (advanced s d) s → ⊥
+no_earlier s d = at (d.time.0 == 0) refl
+  where
+    at : (x : Bool) → (d.time.0 == 0) ≡ x → IsBefore (if x then record { time = s.time; delta = s.delta + d.deltas } else record { time = record { 0 = s.time.0 + d.time.0 }; delta = d.deltas }) s → ⊥
+    at true e h = ⊎_elim (λ a. absurd (omega (arith, a))) (λ a. let b = a.1 in absurd (omega (arith, b))) h
+    at false e h =
+        let some = eqb-false d.time.0 0 e in
+        ⊎_elim (λ a. absurd (omega (arith, a))) (λ a. let b = a.0 in some (omega (arith, b))) h
+
+-- what clashes with a front comes before it or at its stamp
+pub before_or_at : (t : Tables) (b : ℕ) (s : Stamp) (p : ℕ) (f : Front) → clashes_at t b s p f ≡ true → IsBefore s f.stamp ⊎ (s ≡ f.stamp)
+before_or_at t b s p f = at (is_before s f.stamp) (same_stamp s f.stamp) (is_clash (kind_at t.clash b f.segment) true) (nat_lt (process_in t b) p && is_clash (kind_at t.clash b f.segment) false) refl refl
+  where
+    at : (x y k l : Bool) → is_before s f.stamp ≡ x → same_stamp s f.stamp ≡ y → (if x then k else y && l) ≡ true → IsBefore s f.stamp ⊎ (s ≡ f.stamp)
+    at true y k l e i h = inl (is_yes s f.stamp e)
+    at false true k l e i h = inr (yes_same s f.stamp i)
+    at false false k l e i h = absurd cc
+
+-- ---- a front that comes before the other
+
+pub none_behind : (t : Tables) (g : Front) (p : ℕ) (f : Front) → IsBefore f.stamp g.stamp → holds_of t g p f ≡ 0
+unfolding holds_of
+none_behind t g p f behind = none_counted (λ b. is_some (hold_at t g p f b)) (length t.graph.segments) (λ b lt. at b (hold_at t g p f b) refl)
+  where
+    at : (b : ℕ) (o : Option Stamp) → hold_at t g p f b ≡ o → is_some (hold_at t g p f b) ≡ false
+    at b None e = ap (λ (o : Option Stamp). is_some o) e
+    at b (Some s) e =
+        let r = found_by t g p f b s e in
+        let early : IsBefore s g.stamp = ⊎_elim (λ h. transitive s f.stamp g.stamp h behind) (λ h. subst (λ u. IsBefore u g.stamp) (sym h) behind) (before_or_at t b s p f r.clashes) in
+        absurd (no_earlier g.stamp r.delay (subst (λ u. IsBefore u g.stamp) r.at early))
