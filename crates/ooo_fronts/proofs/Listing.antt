@@ -1,14 +1,15 @@
 -- Lists of the numbers that are put into a set one after another.
-use Rattle.std.proofs.Common.{◌≡◌, ◌∙◌, refl, sym, ap, subst, arith, ℕ, ◌+◌, ◌<◌, ◌≤◌, ◌↔◌, ◌⊎◌, inl, inr, Bool, IsTrue, List, [], ◌∷◌, ◌++◌, length, get_or, Result, Ok, Err}
+use Rattle.std.proofs.Common.{◌≡◌, ◌∙◌, refl, sym, ap, subst, arith, ℕ, ◌+◌, ◌<◌, ◌≤◌, ◌↔◌, ◌⊎◌, inl, inr, Bool, IsTrue, Some, List, [], ◌∷◌, ◌++◌, length, get_or, Result, Ok, Err}
 use Rattle.std.specs.Prelude.{All, Contains, IfOk, is_some}
 use Rattle.std.proofs.lemmas.Bool.{cases_lt}
 use Rattle.std.proofs.lemmas.List.{get_or_default, get_or_append_left, get_or_push, length_push}
 use Rattle.std.proofs.lemmas.List.Elements.{Contains-get_or}
 use Rattle.ooo_segments.specs.Numbers.{IsIn, AreNumbersOf}
 use Rattle.ooo_advance.specs.Rows.{entry_at}
+use Rattle.ooo_advance.specs.Walks.{no_delay}
 use Rattle.ooo_tables.specs.declared.tables.Tables.{Tables}
 use Rattle.ooo_fronts.specs.Fronts.{process_in}
-use Rattle.ooo_fronts.specs.Reaching.{AreListsOf, CanBeHeldBy, CanHoldProcess, IsListOf, LeadsTo, Meets, MeetsProcess}
+use Rattle.ooo_fronts.specs.Reaching.{AreListsOf, CanBeHeldBy, CanHoldProcess, IsListOf, LeadsAtOnce, LeadsTo, Meets, MeetsProcess}
 
 -- ---- sets
 
@@ -71,6 +72,16 @@ Leading t a b n = IsTrue (is_some (entry_at t.advance a b)) × (n ≡ b)
 pub leads_all : (t : Tables) (a : ℕ) (n : ℕ) → ((j : ℕ) × (j < length t.graph.segments) × Leading t a j n) ↔ LeadsTo t a n
 leads_all t a n = (
   λ w. let e = sym w.2.1 in subst (LeadsTo t a) e (w.1, w.2.0),
+  λ w. (n, w.0, (w.1, refl)),
+)
+
+-- segment b, if segment a leads to it with no delay
+abbrev pub Staying : Tables → (a b n : ℕ) → Type 0
+Staying t a b n = (entry_at t.advance a b ≡ Some no_delay) × (n ≡ b)
+
+pub stays_all : (t : Tables) (a : ℕ) (n : ℕ) → ((j : ℕ) × (j < length t.graph.segments) × Staying t a j n) ↔ LeadsAtOnce t a n
+stays_all t a n = (
+  λ w. let e = sym w.2.1 in subst (LeadsAtOnce t a) e (w.1, w.2.0),
   λ w. (n, w.0, (w.1, refl)),
 )
 

@@ -1,17 +1,20 @@
--- A front leads to nothing before its own stamp, so it holds no front up that is before it.
-use Rattle.std.proofs.Common.{◌≡◌, refl, sym, ap, subst, arith, ℕ, ◌⊎◌, inl, inr, ⊎_elim, Bool, true, false, ◌&&◌, if◌then◌else◌, ◌==◌, ◌+◌, nat_lt, Option, None, Some, length}
-use Rattle.std.proofs.lemmas.Bool.{eqb-false}
-use Rattle.std.specs.Prelude.{is_some}
+-- A front leads to nothing before its own stamp, and only with no delay to that stamp: so it holds no front up that comes before
+-- it, and one at its stamp only by segments to which it leads with no delay.
+use Rattle.std.proofs.Common.{◌≡◌, ◌∙◌, refl, sym, ap, subst, arith, ℕ, ◌<◌, ◌⊎◌, inl, inr, ⊎_elim, Bool, true, false, ◌&&◌, if◌then◌else◌, ◌==◌, ◌+◌, nat_lt, List, Option, None, Some, length}
+use Rattle.std.proofs.lemmas.Bool.{eqb-true, eqb-false}
+use Rattle.std.specs.Prelude.{is_some, Contains}
 use Rattle.ooo_time.specs.declared.stamp.Stamp.{Stamp}
 use Rattle.ooo_time.specs.declared.delay.Delay.{Delay}
 use Rattle.ooo_time.specs.Delays.{advanced}
 use Rattle.ooo_time.specs.Stamps.{IsBefore, is_before}
 use Rattle.ooo_meaning.specs.World.{same_stamp}
 use Rattle.ooo_conflicts.specs.Kinds.{is_clash, kind_at}
+use Rattle.ooo_advance.specs.Walks.{no_delay}
 use Rattle.ooo_tables.specs.declared.tables.Tables.{Tables}
 use Rattle.ooo_fronts.specs.declared.front.Front.{Front}
 use Rattle.ooo_fronts.specs.Fronts.{process_in}
-use Rattle.ooo_fronts.specs.Holds.{clashes_at, hold_at, holds_of}
+use Rattle.ooo_fronts.specs.Holds.{HoldsByNoOther, clashes_at, hold_at, holds_of}
+use Rattle.ooo_fronts.specs.Reaching.{IsListOf, LeadsAtOnce}
 use Rattle.ooo_fronts.proofs.Holding.{found_by}
 use Rattle.ooo_fronts.proofs.Orders.{is_yes, yes_same}
 use Rattle.ooo_fronts.proofs.Places.{transitive}
@@ -26,6 +29,20 @@ no_earlier s d = at (d.time.0 == 0) refl
     at false e h =
         let some = eqb-false d.time.0 0 e in
         ⊎_elim (λ a. absurd (omega (arith, a))) (λ a. let b = a.0 in some (omega (arith, b))) h
+
+-- only no delay at all leads to the same stamp
+stays : (s : Stamp) (d : Delay) → advanced s d ≡ s → d ≡ no_delay
+stays s d = at (d.time.0 == 0) refl
+  where
+    none : d.time.0 ≡ 0 → d.deltas ≡ 0 → d ≡ no_delay
+    none e n = ap (λ x. record { time = record { 0 = x }; deltas = d.deltas }) e ∙ ap (λ x. record { time = record { 0 = 0 }; deltas = x }) n
+
+    at : (x : Bool) → (d.time.0 == 0) ≡ x → (if x then record { time = s.time; delta = s.delta + d.deltas } else record { time = record { 0 = s.time.0 + d.time.0 }; delta = d.deltas }) ≡ s → d ≡ no_delay
+    at true e h = let still : s.delta + d.deltas ≡ s.delta = ap (λ (u : Stamp). u.delta) h in none (eqb-true d.time.0 0 e) (omega (arith, still))
+    at false e h =
+        let some = eqb-false d.time.0 0 e in
+        let later : s.time.0 + d.time.0 ≡ s.time.0 = ap (λ (u : Stamp). u.time.0) h in
+        absurd (some (omega (arith, later)))
 
 -- what clashes with a front comes before it or at its stamp
 pub before_or_at : (t : Tables) (b : ℕ) (s : Stamp) (p : ℕ) (f : Front) → clashes_at t b s p f ≡ true → IsBefore s f.stamp ⊎ (s ≡ f.stamp)
@@ -48,3 +65,21 @@ none_behind t g p f behind = none_counted (λ b. is_some (hold_at t g p f b)) (l
         let r = found_by t g p f b s e in
         let early : IsBefore s g.stamp = ⊎_elim (λ h. transitive s f.stamp g.stamp h behind) (λ h. subst (λ u. IsBefore u g.stamp) (sym h) behind) (before_or_at t b s p f r.clashes) in
         absurd (no_earlier g.stamp r.delay (subst (λ u. IsBefore u g.stamp) r.at early))
+
+-- ---- a front at the same stamp
+
+-- those to which a front leads with no delay are all by which it may hold up another one at its stamp
+pub at_once_are_all : (t : Tables) (g : Front) (p : ℕ) (f : Front) (xs : List ℕ) → f.stamp ≡ g.stamp → IsListOf (LeadsAtOnce t g.segment) xs → HoldsByNoOther t g p f xs
+at_once_are_all t g p f xs same is = record {
+  ascending = is.ascending;
+  within = λ b c. ((is.exact b).0 c).0;
+  others = λ b lt out. at b lt out (hold_at t g p f b) refl;
+}
+  where
+    at : (b : ℕ) → b < length t.graph.segments → (Contains xs b → ⊥) → (o : Option Stamp) → hold_at t g p f b ≡ o → is_some (hold_at t g p f b) ≡ false
+    at b lt out None e = ap (λ (o : Option Stamp). is_some o) e
+    at b lt out (Some s) e =
+        let r = found_by t g p f b s e in
+        let early : IsBefore s f.stamp → ⊥ = λ h. no_earlier g.stamp r.delay (subst (λ u. IsBefore u g.stamp) r.at (subst (IsBefore s) same h)) in
+        let there : (s ≡ f.stamp) → ⊥ = λ h. out ((is.exact b).1 (lt, r.leads ∙ ap (λ (d : Delay). Some d) (stays g.stamp r.delay (sym r.at ∙ h ∙ same)))) in
+        absurd (⊎_elim early there (before_or_at t b s p f r.clashes))

@@ -1,8 +1,9 @@
 -- What a front can come to, whatever its stamp: to which segments it leads, and which fronts it can hold up.
-use Rattle.std.specs.Prelude.{◌≡◌, ◌≢◌, ℕ, ◌<◌, ◌↔◌, List, [], IsTrue, true, Contains, is_some, length, slice_index_or}
+use Rattle.std.specs.Prelude.{◌≡◌, ◌≢◌, ℕ, ◌<◌, ◌↔◌, List, [], Some, IsTrue, true, Contains, is_some, length, slice_index_or}
 use Rattle.ooo_access.specs.Access.{AreAscending}
 use Rattle.ooo_conflicts.specs.Kinds.{is_clash, kind_at}
 use Rattle.ooo_advance.specs.Rows.{entry_at}
+use Rattle.ooo_advance.specs.Walks.{no_delay}
 use Rattle.ooo_tables.specs.declared.tables.Tables.{Tables}
 use Rattle.ooo_fronts.specs.Fronts.{process_in}
 
@@ -11,6 +12,10 @@ use Rattle.ooo_fronts.specs.Fronts.{process_in}
 -- segment a leads to segment b
 abbrev pub LeadsTo : Tables → (a b : ℕ) → Type 0
 LeadsTo t a b = (b < length t.graph.segments) × IsTrue (is_some (entry_at t.advance a b))
+
+-- segment a leads to segment b with no delay, so that it stays at its stamp
+abbrev pub LeadsAtOnce : Tables → (a b : ℕ) → Type 0
+LeadsAtOnce t a b = (b < length t.graph.segments) × (entry_at t.advance a b ≡ Some no_delay)
 
 -- segment c is of another process than segment b, which clashes with it where it comes at an earlier stamp
 abbrev pub Meets : Tables → (b c : ℕ) → Type 0
@@ -48,16 +53,18 @@ pub record AreListsOf (P : ℕ → ℕ → Type 0) (count : ℕ) (lists : List (
   pub many : length lists ≡ count
   pub each : (k : ℕ) → k < count → IsListOf (P k) (slice_index_or lists k [])
 
--- of each segment those to which it leads, and the processes that it can hold up; and of each process those by which it can be
--- held up
+-- of each segment those to which it leads, those of them to which it does with no delay, and the processes that it can hold up;
+-- and of each process those by which it can be held up
 pub record Reached : Type 0 where
   pub leads : List (List ℕ)
+  pub at_once : List (List ℕ)
   pub affected : List (List ℕ)
   pub holders : List (List ℕ)
 
 -- they are those of the tables, and there are holders of each process that has a segment
 pub record AreReaches (t : Tables) (r : Reached) : Type 0 where
   pub leads : AreListsOf (LeadsTo t) (length t.graph.segments) r.leads
+  pub at_once : AreListsOf (LeadsAtOnce t) (length t.graph.segments) r.at_once
   pub affected : AreListsOf (CanHoldProcess t) (length t.graph.segments) r.affected
   pub holders : AreListsOf (CanBeHeldBy t) (length r.holders) r.holders
   pub processes : (a : ℕ) → a < length t.graph.segments → process_in t a < length r.holders

@@ -85,8 +85,9 @@ impl Fronts {
 
     /// Gives process `p` this front, and mends the counts. It takes no memory, and goes over no processes but those that the
     /// old front or the new one can hold up, and those that can hold the new one up: of each over the fewer of the segments
-    /// to which the holding front leads, and of those that clash strictly with the one that is held; and over none where the
-    /// one that is held comes before the other.
+    /// to which the holding front leads, and of those that clash strictly with the one that is held. Where both are at the
+    /// same stamp, it goes only over the segments to which the holding front leads with no delay, and where the one that is
+    /// held comes before it, over none.
     pub fn set(&mut self, tables: &Tables, reaches: &Reaches, p: u32, front: Option<Front>)
         requires aligned { AreAligned tables.now }
         requires reaches { AreReaches tables.now reaches.now }

@@ -77,9 +77,9 @@ pub(crate) fn maybe_holds_of(
     }
 }
 
-// By how many segments the front g holds the front f of process p up. It leads to nothing before its own stamp, so to a front
-// before that by none. Only segments to which it leads can, and only those that clash strictly with f's, so it goes over
-// whichever are fewer.
+// By how many segments the front g holds the front f of process p up. It leads to nothing before its own stamp: so by none a
+// front that comes before it, and one at its stamp only by segments to which it leads with no delay. A later one only by
+// segments to which it leads and that clash strictly with f's, so it goes over whichever of these and those are fewer.
 pub(crate) fn holds_of(tables: &Tables, reaches: &Reaches, g: Front, p: u32, f: Front) -> u32
     requires aligned { AreAligned tables.now }
     requires reaches { AreReaches tables.now reaches.now }
@@ -90,6 +90,9 @@ pub(crate) fn holds_of(tables: &Tables, reaches: &Reaches, g: Front, p: u32, f: 
 {
     if f.stamp.is_before(g.stamp) {
         return 0;
+    }
+    if f.stamp == g.stamp {
+        return count_among(tables, reaches.at_once(g.segment), g, p, f);
     }
     let leads = reaches.leads(g.segment);
     let clashing = tables.clash.clashing(f.segment);

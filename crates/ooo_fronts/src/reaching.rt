@@ -1,13 +1,16 @@
-ghost use Rattle.std.specs.Prelude.{◌≡◌, ◌≢◌, ◌^◌, ◌<◌, ◌≤◌, ◌⊎◌, ◌↔◌, ℕ, ◌+◌, [], length, slice_index_or, All, Contains, IfOk, OnOk, IsTrue};
+ghost use Rattle.std.specs.Prelude.{◌≡◌, ◌≢◌, ◌^◌, ◌<◌, ◌≤◌, ◌⊎◌, ◌↔◌, ℕ, ◌+◌, Some, [], length, slice_index_or, All, Contains, IfOk, OnOk, IsTrue};
 ghost use Rattle.ooo_access.specs.Access.{AreAscending};
+ghost use Rattle.ooo_advance.specs.Rows.{entry_at};
+ghost use Rattle.ooo_advance.specs.Walks.{no_delay};
 ghost use Rattle.ooo_segments.specs.Beginnings.{greatest_segments};
 ghost use Rattle.ooo_segments.specs.Numbers.{IsIn};
 ghost use Rattle.ooo_fronts.specs.Fronts.{AreAligned, process_in};
-ghost use Rattle.ooo_fronts.specs.Reaching.{AreListsOf, AreReaches, CanBeHeldBy, CanHoldProcess, IsListOf, LeadsTo, Meets, MeetsProcess};
+ghost use Rattle.ooo_fronts.specs.Reaching.{AreListsOf, AreReaches, CanBeHeldBy, CanHoldProcess, IsListOf, LeadsAtOnce, LeadsTo, Meets, MeetsProcess};
 
 use crate::holds::process_of;
 use ooo_segments::NumberSet;
 use ooo_tables::Tables;
+use ooo_time::Delay;
 use sqlite_items::Items;
 use std::alloc::{AllocError, Global};
 use std::marker::Model;
@@ -18,6 +21,8 @@ use std::marker::Model;
 pub struct Reaches {
     // Of each segment those to which it leads.
     leads: Vec<Items<u32>>,
+    // Of each segment those to which it leads with no delay.
+    at_once: Vec<Items<u32>>,
     // Of each segment the processes that it can hold up.
     affected: Vec<Items<u32>>,
     // Of each process those by which it can be held up.
@@ -29,7 +34,7 @@ impl Model for Reaches {
 
     ghost Value = { Reached };
 
-    ghost view = { λ r. record { leads = r.leads.items; affected = r.affected.items; holders = r.holders.items } };
+    ghost view = { λ r. record { leads = r.leads.items; at_once = r.at_once.items; affected = r.affected.items; holders = r.holders.items } };
 }
 
 impl Reaches {
@@ -43,11 +48,13 @@ impl Reaches {
         ensures { IfOk result (AreReaches tables.now) }
     {
         let leads = all_leads(alloc, tables)?;
+        let at_once = all_at_once(alloc, tables)?;
         let met = all_met(alloc, tables)?;
         let affected = all_affected(alloc, tables, leads.as_slice(), met.as_slice())?;
         let holders = all_holders(alloc, tables, affected.as_slice())?;
         Ok(Reaches {
             leads,
+            at_once,
             affected,
             holders,
         })
@@ -59,6 +66,14 @@ impl Reaches {
         ensures { result.now ≡ slice_index_or self.now.leads a [] }
     {
         self.leads[a as usize].as_slice()
+    }
+
+    // The segments to which segment a leads with no delay, ascending.
+    pub(crate) fn at_once(&self, a: u32) -> &[u32]
+        requires { a < length self.now.at_once }
+        ensures { result.now ≡ slice_index_or self.now.at_once a [] }
+    {
+        self.at_once[a as usize].as_slice()
     }
 
     // The processes that a front of segment a can hold up, ascending.
@@ -104,6 +119,44 @@ fn leads_of(alloc: Global, tables: &Tables, a: u32) -> Result<Items<u32>, AllocE
         add_if(&mut set, leads, b as u32)?;
     }
     set.numbers(alloc)
+}
+
+// Of each segment those to which it leads with no delay.
+fn all_at_once(alloc: Global, tables: &Tables) -> Result<Vec<Items<u32>>, AllocError>
+    requires aligned { AreAligned tables.now }
+    ensures { IfOk result (λ lists.
+        AreListsOf (LeadsAtOnce tables.now) (length tables.now.graph.segments) lists.items) }
+{
+    let count = tables.graph.segments.len();
+    let mut lists = Vec::with_capacity(alloc, count)?;
+    for a in 0..count {
+        lists.push(at_once_of(alloc, tables, a as u32)?)?;
+    }
+    Ok(lists)
+}
+
+// The segments to which segment a leads with no delay.
+fn at_once_of(alloc: Global, tables: &Tables, a: u32) -> Result<Items<u32>, AllocError>
+    requires aligned { AreAligned tables.now }
+    requires segment { a < length tables.now.graph.segments }
+    ensures { IfOk result (IsListOf (LeadsAtOnce tables.now a)) }
+{
+    let mut set = NumberSet::new(alloc);
+    for b in 0..tables.graph.segments.len() {
+        let leads = leads_at_once(tables, a, b as u32);
+        add_if(&mut set, leads, b as u32)?;
+    }
+    set.numbers(alloc)
+}
+
+// Whether segment a leads to segment b with no delay.
+fn leads_at_once(tables: &Tables, a: u32, b: u32) -> bool
+    requires aligned { AreAligned tables.now }
+    requires one { a < length tables.now.graph.segments }
+    requires other { b < length tables.now.graph.segments }
+    ensures { IsTrue result ↔ (entry_at tables.now.advance a b ≡ Some no_delay) }
+{
+    tables.advance.least(a, b) == Some(Delay::NONE)
 }
 
 // Of each segment the processes of which it meets a segment.
