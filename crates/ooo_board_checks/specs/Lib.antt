@@ -1,0 +1,3 @@
+pub mod Sketches
+pub mod Tests
+pub mod Trials

@@ -1,0 +1,170 @@
+//! The worked rows: what a board answers between its steps.
+
+use crate::rows::Row;
+use crate::trial::Line::{self, Allowed, Front, Holder, Holds, IsOver, Makes, Picks, Refuses};
+use crate::trial::Trial;
+use ooo_dispatch::Step::{Commit, Dispatch};
+use ooo_fronts::Hold;
+use ooo_time::{Stamp, Time};
+use std::alloc::Global;
+use std::process::Abort;
+use std::test::Fail;
+
+// The board of a row does all this, and then has the row's report.
+fn follows(rt: &impl Abort, alloc: Global, row: Row, lines: &[Line]) -> Result<(), Fail> {
+    let mut trial = Trial::make(alloc, row)?;
+    let wrong = trial.first_wrong(alloc, lines)?;
+    assert_eq!(rt; wrong, None, "{row:?}");
+    assert!(rt; trial.reports(alloc, row.report())?, "{row:?}");
+    Ok(())
+}
+
+// A front at so many picoseconds and delta cycles.
+fn front(segment: u32, ticks: u64, delta: u32) -> Option<ooo_fronts::Front> {
+    Some(ooo_fronts::Front {
+        segment,
+        stamp: at(ticks, delta),
+    })
+}
+
+// What holds a process up: the front of a process, by what it leads to.
+fn held(front: u32, segment: u32, ticks: u64, delta: u32) -> Option<Hold> {
+    Some(Hold {
+        front,
+        segment,
+        at: at(ticks, delta),
+    })
+}
+
+fn at(ticks: u64, delta: u32) -> Stamp {
+    Stamp {
+        time: Time(ticks),
+        delta,
+    }
+}
+
+// The second thread is dispatched and committed twice while the first one's job is out.
+#[test]
+fn the_second_thread_ends_first(rt: HostRuntime) -> Result<(), Fail> {
+    let lines = [
+        Makes(Dispatch(0)),
+        Picks(Some(1)),
+        Makes(Dispatch(1)),
+        Makes(Commit(1)),
+        Makes(Dispatch(1)),
+        Makes(Commit(1)),
+        IsOver(false),
+        Makes(Commit(0)),
+        IsOver(true),
+    ];
+    follows(&rt, rt.alloc(), Row::SecondThreadFirst, &lines)
+}
+
+// The second thread reads the variable at 3 ns before the first is dispatched. At 10 ns it is held up, since the first writes
+// the variable at 5 ns: by one clash.
+#[test]
+fn a_variable_is_read_ahead(rt: HostRuntime) -> Result<(), Fail> {
+    let lines = [
+        Makes(Dispatch(1)),
+        Makes(Commit(1)),
+        Front(1, front(3, 3_000, 0)),
+        Allowed(1, true),
+        Makes(Dispatch(1)),
+        Makes(Commit(1)),
+        Front(1, front(4, 10_000, 0)),
+        Allowed(1, false),
+        Refuses(Dispatch(1)),
+        Holder(1, held(0, 1, 5_000, 0)),
+        Holds(&[0, 1]),
+        Picks(Some(0)),
+        Makes(Dispatch(0)),
+        Makes(Commit(0)),
+        Makes(Dispatch(0)),
+        Makes(Commit(0)),
+        Allowed(1, true),
+        Holder(1, None),
+        Holds(&[0, 0]),
+        Makes(Dispatch(1)),
+        Makes(Commit(1)),
+        IsOver(true),
+    ];
+    follows(&rt, rt.alloc(), Row::VariableAhead, &lines)
+}
+
+// The third thread is held up by what the second will write, once the first has notified it.
+#[test]
+fn who_is_notified_later_holds_up(rt: HostRuntime) -> Result<(), Fail> {
+    let lines = [
+        Makes(Dispatch(1)),
+        Makes(Commit(1)),
+        Makes(Dispatch(2)),
+        Makes(Commit(2)),
+        Front(1, None),
+        Allowed(1, false),
+        Allowed(2, false),
+        Holder(2, held(0, 3, 1_000, 1)),
+        Makes(Dispatch(0)),
+        Makes(Commit(0)),
+        Makes(Dispatch(0)),
+        Makes(Commit(0)),
+        Front(1, front(3, 1_000, 1)),
+        Allowed(2, false),
+        Holder(2, held(1, 3, 1_000, 1)),
+        Makes(Dispatch(1)),
+        Refuses(Dispatch(2)),
+        Makes(Commit(1)),
+        Makes(Dispatch(2)),
+        Makes(Commit(2)),
+        IsOver(true),
+    ];
+    follows(&rt, rt.alloc(), Row::NotifiedLater, &lines)
+}
+
+// Who writes a signal runs ahead of who reads it later, which sees what was written before.
+#[test]
+fn a_writer_is_ahead_of_a_reader(rt: HostRuntime) -> Result<(), Fail> {
+    let lines = [
+        Makes(Dispatch(1)),
+        Makes(Commit(1)),
+        Allowed(1, true),
+        Holder(1, None),
+        Makes(Dispatch(1)),
+        Makes(Commit(1)),
+        Front(1, None),
+        Makes(Dispatch(0)),
+        Makes(Commit(0)),
+        Front(0, front(1, 5_000, 0)),
+        Makes(Dispatch(0)),
+        Makes(Commit(0)),
+        IsOver(true),
+    ];
+    follows(&rt, rt.alloc(), Row::SlowReader, &lines)
+}
+
+// The second thread runs to the stop time before the first faults, at 5 ns: what it printed after that isn't in the report.
+#[test]
+fn a_fault_cuts_off_what_ran_ahead(rt: HostRuntime) -> Result<(), Fail> {
+    let lines = [
+        Makes(Dispatch(1)),
+        Makes(Commit(1)),
+        Makes(Dispatch(1)),
+        Makes(Commit(1)),
+        Makes(Dispatch(1)),
+        Makes(Commit(1)),
+        Makes(Dispatch(1)),
+        Makes(Commit(1)),
+        Makes(Dispatch(1)),
+        Makes(Commit(1)),
+        Makes(Dispatch(1)),
+        Makes(Commit(1)),
+        Front(1, front(3, 120_000, 0)),
+        Allowed(1, false),
+        Makes(Dispatch(0)),
+        Makes(Commit(0)),
+        Makes(Dispatch(0)),
+        IsOver(false),
+        Makes(Commit(0)),
+        IsOver(true),
+    ];
+    follows(&rt, rt.alloc(), Row::FaultBehind, &lines)
+}
