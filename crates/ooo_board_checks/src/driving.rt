@@ -9,7 +9,7 @@ use std::alloc::{AllocError, Global};
 use std::test::Fail;
 
 // How many orders are drawn for each row.
-const SEEDS: u64 = 300;
+const SEEDS: u64 = 2000;
 
 // More steps than any of these boards takes.
 const MOST_STEPS: u32 = 1000;

@@ -210,7 +210,8 @@ impl Trial {
     fn running(&self, p: u32) -> bool
         requires { AreHeld self.now.board self.now.given.items }
         ensures there { IsTrue result → p < length self.now.board.design.processes }
-        ensures out { IsTrue result → IsSome (job_of (rules self.now.board) (state self.now.board) p) }
+        ensures out { IsTrue result
+            → IsSome (job_of (rules self.now.board) (state self.now.board) p) }
     {
         self.has(p) && self.board.running(p)
     }
