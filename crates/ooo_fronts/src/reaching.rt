@@ -236,7 +236,8 @@ fn all_holders(
     affected: &[Items<u32>],
 ) -> Result<Vec<Items<u32>>, AllocError>
     requires few { length tables.now.graph.segments ≤ greatest_segments }
-    requires affected { AreListsOf (CanHoldProcess tables.now) (length tables.now.graph.segments) affected.now }
+    requires affected { AreListsOf (CanHoldProcess tables.now)
+        (length tables.now.graph.segments) affected.now }
     ensures lists { IfOk result (λ lists.
         AreListsOf (CanBeHeldBy tables.now) (length lists.items) lists.items) }
     ensures processes { IfOk result (λ lists. (a : ℕ) → a < length tables.now.graph.segments →
@@ -253,7 +254,8 @@ fn all_holders(
 // One more than the greatest process of a segment.
 fn process_count(tables: &Tables) -> usize
     requires few { length tables.now.graph.segments ≤ greatest_segments }
-    ensures all { (a : ℕ) → a < length tables.now.graph.segments → process_in tables.now a < result }
+    ensures all { (a : ℕ) → a < length tables.now.graph.segments →
+        process_in tables.now a < result }
     ensures few { result ≤ 2 ^ 32 }
 {
     let mut count = 0;
@@ -284,7 +286,8 @@ fn holders_of(
     p: u32,
 ) -> Result<Items<u32>, AllocError>
     requires few { length tables.now.graph.segments ≤ greatest_segments }
-    requires affected { AreListsOf (CanHoldProcess tables.now) (length tables.now.graph.segments) affected.now }
+    requires affected { AreListsOf (CanHoldProcess tables.now)
+        (length tables.now.graph.segments) affected.now }
     ensures { IfOk result (IsListOf (CanBeHeldBy tables.now p)) }
 {
     let mut set = NumberSet::new(alloc);

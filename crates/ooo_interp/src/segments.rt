@@ -36,12 +36,11 @@ pub fn run_segment(alloc: Global, job: Job) -> Result<Done, AllocError>
         activation,
         stamp,
         statements,
-        frame,
+        frame: Frame { entry, slots },
         owned,
         copied,
         seen,
     } = job;
-    let Frame { entry, slots } = frame;
     let ports = ports_of(alloc, seen.as_slice())?;
     let fifos = SeenFifos::new(seen);
     let mut parts = JobParts {
