@@ -1,10 +1,10 @@
 -- Variables that are carried: where one stands, and other elements in its place.
-use Rattle.std.proofs.Common.{◌≡◌, ◌≢◌, ℕ, zero, suc, ◌==◌, List, [], ◌∷◌, Bool, true, false, if◌then◌else◌, Some, None, get_or, refl, sym, ap, arith}
+use Rattle.std.proofs.Common.{◌≡◌, ◌≢◌, ℕ, zero, suc, ◌<◌, ◌==◌, List, [], ◌∷◌, length, Bool, true, false, if◌then◌else◌, Some, None, get_or, refl, sym, ap, ◌∙◌, arith}
 use Rattle.std.specs.Prelude.{All, MatchOption, Option, slice_set}
 use Rattle.std.proofs.lemmas.Bool.Decides.{nat_tests}
 use Rattle.ooo_value.specs.declared.values.Value.{Value}
 use Rattle.ooo_interp.specs.Carrying.{Carried, IsAscending, listed, with_listed}
-use Rattle.ooo_interp.proofs.Searched.{StandsAt as NumberStandsAt, first_differs, none_first, none_later, tail_ascends}
+use Rattle.ooo_interp.proofs.Searched.{StandsAt as NumberStandsAt, first_differs, none_first, none_later, stands_from, tail_ascends}
 
 -- the number of a variable that is carried
 abbrev pub number_of_carried : Carried → ℕ
@@ -13,6 +13,10 @@ number_of_carried c = c.0
 -- variable number x stands at a place
 abbrev pub StandsAt : List Carried → (x at : ℕ) → Type 0
 StandsAt xs x at = NumberStandsAt number_of_carried xs x at
+
+-- where one with number x stands
+pub found_at : (xs : List Carried) (x at : ℕ) (e : Carried) → at < length xs → e ≡ get_or xs at e → e.0 ≡ x → StandsAt xs x at
+found_at xs x at e lt there same = stands_from number_of_carried xs x at e lt (ap number_of_carried (sym there) ∙ same)
 
 none_listed : (xs : List Carried) (x : ℕ) → All (λ c. c.0 ≢ x) xs → listed xs x ≡ None
 none_listed [] x h = refl

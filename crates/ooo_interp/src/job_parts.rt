@@ -1,4 +1,4 @@
-ghost use Rattle.std.specs.Prelude.{◌≡◌, slice_get, slice_set, None, Some, MatchOption, IsSomeAnd, is_some};
+ghost use Rattle.std.specs.Prelude.{◌≡◌, [], slice_get, slice_set, unwrap_or, None, Some, MatchOption, IsSomeAnd, is_some};
 ghost use Rattle.ooo_interp.specs.Carrying.{IsAscending, listed, put_in, with_listed};
 
 use crate::parts::Lent;
@@ -19,6 +19,8 @@ pub struct JobParts {
     pub fifos: SeenFifos,
     /// How many variables the design has.
     pub count: usize,
+    /// Where a variable is looked for first: as far on among those that may be changed as its number is above this one.
+    pub first: u32,
     ghost owned_ascending: { IsAscending owned.items },
     ghost copied_ascending: { IsAscending copied.items },
 }
@@ -42,17 +44,16 @@ impl Lent for JobParts {
         self.slots.as_slice()
     }
 
+    #[inline(always)]
     fn cells(&self, variable: u32) -> &[Value] {
         if variable as usize >= self.count {
             return &[];
         }
-        match cells_in(&self.owned, variable) {
-            Some(cells) => cells,
-            None => match cells_in(&self.copied, variable) {
-                Some(cells) => cells,
-                None => &[],
-            },
+        let at = variable.wrapping_sub(self.first) as usize;
+        if at < self.owned.len() && self.owned[at].0 == variable {
+            return self.owned[at].1.as_slice();
         }
+        cells_in_either(&self.owned, &self.copied, variable)
     }
 
     fn signal(&self, channel: u32) -> (Value, bool) {
@@ -84,12 +85,13 @@ impl Lent for JobParts {
         set_item(&mut self.slots, slot as usize, v);
     }
 
+    #[inline(always)]
     fn set_cell(&mut self, variable: u32, at: usize, v: Value) {
         if variable as usize >= self.count {
             return;
         }
-        if !set_in(&mut self.owned, variable, at, v) {
-            set_in(&mut self.copied, variable, at, v);
+        if !set_in(&mut self.owned, self.first, variable, at, &v) {
+            set_by_search(&mut self.copied, variable, at, &v);
         }
     }
 
@@ -99,6 +101,32 @@ impl Lent for JobParts {
 
     fn put(&mut self, channel: u32) {
         self.ports.put(channel);
+    }
+}
+
+// The number of the first variable that is carried.
+pub(crate) fn first_of(carried: &[(u32, Cells)]) -> u32 {
+    if carried.is_empty() { 0 } else { carried[0].0 }
+}
+
+// The elements of a variable, where it is carried, and of the first list, where it stands in both.
+#[inline(never)]
+fn cells_in_either<'a>(
+    owned: &'a [(u32, Cells)],
+    copied: &'a [(u32, Cells)],
+    variable: u32,
+) -> &'a [Value]
+    requires owned { IsAscending owned.now }
+    requires copied { IsAscending copied.now }
+    ensures { result.now
+        ≡ unwrap_or (listed owned.now variable) (unwrap_or (listed copied.now variable) []) }
+{
+    match cells_in(owned, variable) {
+        Some(cells) => cells,
+        None => match cells_in(copied, variable) {
+            Some(cells) => cells,
+            None => &[],
+        },
     }
 }
 
@@ -123,17 +151,37 @@ fn cells_in(carried: &[(u32, Cells)], variable: u32) -> Option<&[Value]>
     }
 }
 
-// Gives an element of a variable a value, where it has that element. It answers whether the variable is carried.
-fn set_in(carried: &mut Vec<(u32, Cells)>, variable: u32, at: usize, v: Value) -> bool
+// Gives an element of a variable a value, where it has that element. It answers whether the variable is carried. With
+// no number left out, it stands as far on as its number is above the first one. The value is lent: by itself it would be
+// written to the stack for a search that is seldom made.
+#[inline(always)]
+fn set_in(carried: &mut Vec<(u32, Cells)>, first: u32, variable: u32, at: usize, v: &Value) -> bool
     requires { IsAscending carried.old.items }
     ensures found { result ≡ is_some (listed carried.old.items variable) }
     ensures ascending { IsAscending carried.new.items }
     ensures listed { carried.new.items
-        ≡ with_listed variable (λ cells. slice_set cells at v) carried.old.items }
+        ≡ with_listed variable (λ cells. slice_set cells at v.now) carried.old.items }
+{
+    let place = variable.wrapping_sub(first) as usize;
+    if place < carried.len() && carried[place].0 == variable {
+        set_item(&mut carried[place].1, at, *v);
+        return true;
+    }
+    set_by_search(carried, variable, at, v)
+}
+
+// The same, wherever it stands.
+#[inline(never)]
+fn set_by_search(carried: &mut Vec<(u32, Cells)>, variable: u32, at: usize, v: &Value) -> bool
+    requires { IsAscending carried.old.items }
+    ensures found { result ≡ is_some (listed carried.old.items variable) }
+    ensures ascending { IsAscending carried.new.items }
+    ensures listed { carried.new.items
+        ≡ with_listed variable (λ cells. slice_set cells at v.now) carried.old.items }
 {
     match place_of(carried, variable) {
         Some(place) => {
-            set_item(&mut carried[place].1, at, v);
+            set_item(&mut carried[place].1, at, *v);
             true
         }
         None => false,

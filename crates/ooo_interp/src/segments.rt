@@ -7,7 +7,7 @@ ghost use Rattle.ooo_interp.specs.Ports.{ValuesOf, all_shown, channel_of, shown,
 use crate::doing::{Emitted, Halt, Pause};
 use crate::fifo_port::FifoPort;
 use crate::job::{Done, Job};
-use crate::job_parts::JobParts;
+use crate::job_parts::{JobParts, first_of};
 use crate::port::Port;
 use crate::ports::Ports;
 use crate::processes::{Start, run_process};
@@ -43,6 +43,7 @@ pub fn run_segment(alloc: Global, job: Job) -> Result<Done, AllocError>
     } = job;
     let ports = ports_of(alloc, seen.as_slice())?;
     let fifos = SeenFifos::new(seen);
+    let first = first_of(owned.as_slice());
     let mut parts = JobParts {
         slots,
         owned,
@@ -50,6 +51,7 @@ pub fn run_segment(alloc: Global, job: Job) -> Result<Done, AllocError>
         ports,
         fifos,
         count: design.variables.len(),
+        first,
     };
     let start = Start {
         process,

@@ -1,18 +1,16 @@
 -- Where the variable stands it has other elements.
-use Rattle.std.proofs.Common.{slice_set, sym, ap, ◌∙◌}
+use Rattle.std.proofs.Common.{ℕ, ◌+◌, ◌-◌, ◌%◌, slice_set, sym, ap, ◌∙◌, arith}
 use Rattle.std.specs.Prelude.{is_some}
-use Rattle.ooo_interp.proofs.Listed.{StandsAt, set_listed, stands_listed, unlisted}
+use Rattle.ooo_interp.proofs.Listed.{found_at, set_listed, stands_listed}
 use Rattle.ooo_interp.proofs.job_parts.set_in.Goals as goal
 
-pub returns-in-Some-clause-listed : goal.returns-in-Some-clause-listed
-returns-in-Some-clause-listed c =
-    let stands : StandsAt c.args.carried.now.items c.args.variable c.in-Some.place = rw c.deref.ensures.value at c.in-Some.ensures in
-    ap (λ cells. slice_set c.args.carried.now.items c.in-Some.place (c.index_mut.result.now.0, cells)) c.set_item.ensures ∙ set_listed c.args.carried.now.items c.args.variable c.in-Some.place c.index_mut.result.now (λ cells. slice_set cells c.args.at c.args.v) c.requires stands c.index_mut.ensures.value
+pub returns-then-index-variable-clause-listed : goal.returns-then-index-variable-clause-listed
+returns-then-index-variable-clause-listed c =
+    let stands = found_at c.args.carried.now.items c.args.variable _ c.index.result.now (omega (arith, c.len.ensures, c.if-place-len.true)) c.index.ensures c.if-index-variable.true in
+    let place : ℕ = (c.args.variable + (4294967296 - c.args.first)) % 4294967296 in
+    ap (λ cells. slice_set c.args.carried.now.items place (c.index_mut.result.now.0, cells)) c.set_item.ensures ∙ set_listed c.args.carried.now.items c.args.variable place c.index_mut.result.now (λ cells. slice_set cells c.args.at c.args.v.now) c.requires stands c.index_mut.ensures.value
 
-pub returns-in-None-clause-listed : goal.returns-in-None-clause-listed
-returns-in-None-clause-listed c = sym (unlisted c.args.carried.now.items c.args.variable _ (rw c.deref.ensures.value at c.in-None.ensures))
-
-pub returns-in-Some-clause-found : goal.returns-in-Some-clause-found
-returns-in-Some-clause-found c =
-    let stands : StandsAt c.args.carried.now.items c.args.variable c.in-Some.place = rw c.deref.ensures.value at c.in-Some.ensures in
-    sym (ap is_some (stands_listed c.args.carried.now.items c.args.variable c.in-Some.place c.index_mut.result.now c.requires stands c.index_mut.ensures.value))
+pub returns-then-index-variable-clause-found : goal.returns-then-index-variable-clause-found
+returns-then-index-variable-clause-found c =
+    let stands = found_at c.args.carried.now.items c.args.variable _ c.index.result.now (omega (arith, c.len.ensures, c.if-place-len.true)) c.index.ensures c.if-index-variable.true in
+    sym (ap is_some (stands_listed c.args.carried.now.items c.args.variable _ c.index_mut.result.now c.requires stands c.index_mut.ensures.value))

@@ -1,26 +1,23 @@
 -- The elements that are carried of a variable stand in its place.
-use Rattle.std.proofs.Common.{◌≡◌, None, Some, sym, ap, [], ◌∙◌, arith}
+use Rattle.std.proofs.Common.{◌≡◌, Some, sym, ap, [], ◌∙◌, arith}
 use Rattle.std.specs.Prelude.{unwrap_or}
 use Rattle.ooo_interp.specs.Carrying.{listed}
+use Rattle.ooo_interp.proofs.Listed.{found_at, stands_listed}
 use Rattle.ooo_interp.proofs.Placed.{cells_below, cells_past}
 use Rattle.ooo_interp.proofs.job_parts.JobPartsLent.cells.Goals as goal
 
 pub returns-then-variable-self : goal.returns-then-variable-self
 returns-then-variable-self c = sym (cells_past c.args.self.now.count c.args.self.now.owned.items c.args.self.now.copied.items c.args.variable c.if-variable-self.true)
 
-pub returns-in-Some : goal.returns-in-Some
-returns-in-Some c =
-    let there : listed c.args.self.now.owned.items c.args.variable ≡ Some c.in-Some.cells.now = rw c.deref.ensures.value at c.in-Some.ensures in
-    sym (cells_below c.args.self.now.count c.args.self.now.owned.items c.args.self.now.copied.items c.args.variable (omega arith) ∙ ap (λ o. unwrap_or o (unwrap_or (listed c.args.self.now.copied.items c.args.variable) [])) there)
+pub returns-then-index-variable : goal.returns-then-index-variable
+returns-then-index-variable c =
+    let stands = found_at c.args.self.now.owned.items c.args.variable _ c.index.result.now (omega (arith, c.len.ensures, c.if-at-len.true)) c.index.ensures c.if-index-variable.true in
+    let there : listed c.args.self.now.owned.items c.args.variable ≡ Some c.index-then-index-variable.result.now.1 = stands_listed c.args.self.now.owned.items c.args.variable _ c.index-then-index-variable.result.now c.args.self.now.owned_ascending stands c.index-then-index-variable.ensures in
+    c.as_slice.ensures ∙ sym (cells_below c.args.self.now.count c.args.self.now.owned.items c.args.self.now.copied.items c.args.variable (omega arith) ∙ ap (λ o. unwrap_or o (unwrap_or (listed c.args.self.now.copied.items c.args.variable) [])) there)
 
-pub returns-in-Some-cells_in : goal.returns-in-Some-cells_in
-returns-in-Some-cells_in c =
-    let none : listed c.args.self.now.owned.items c.args.variable ≡ None = rw c.deref.ensures.value at c.in-None.ensures in
-    let there : listed c.args.self.now.copied.items c.args.variable ≡ Some c.in-Some-cells_in.cells.now = rw c.deref-in-None.ensures.value at c.in-Some-cells_in.ensures in
-    sym (cells_below c.args.self.now.count c.args.self.now.owned.items c.args.self.now.copied.items c.args.variable (omega arith) ∙ ap (λ o. unwrap_or o (unwrap_or (listed c.args.self.now.copied.items c.args.variable) [])) none ∙ ap (λ o. unwrap_or o []) there)
-
-pub returns-in-None-cells_in : goal.returns-in-None-cells_in
-returns-in-None-cells_in c =
-    let none : listed c.args.self.now.owned.items c.args.variable ≡ None = rw c.deref.ensures.value at c.in-None.ensures in
-    let there : listed c.args.self.now.copied.items c.args.variable ≡ None = rw c.deref-in-None.ensures.value at c.in-None-cells_in.ensures in
-    sym (cells_below c.args.self.now.count c.args.self.now.owned.items c.args.self.now.copied.items c.args.variable (omega arith) ∙ ap (λ o. unwrap_or o (unwrap_or (listed c.args.self.now.copied.items c.args.variable) [])) none ∙ ap (λ o. unwrap_or o []) there)
+pub returns : goal.returns
+returns c =
+    c.cells_in_either.ensures
+    ∙ ap (λ xs. unwrap_or (listed xs c.args.variable) (unwrap_or (listed c.deref-2.result.now c.args.variable) [])) c.deref.ensures.value
+    ∙ ap (λ xs. unwrap_or (listed c.args.self.now.owned.items c.args.variable) (unwrap_or (listed xs c.args.variable) [])) c.deref-2.ensures.value
+    ∙ sym (cells_below c.args.self.now.count c.args.self.now.owned.items c.args.self.now.copied.items c.args.variable (omega arith))

@@ -19,8 +19,8 @@ returns-then-not-set_in-clause-sight c =
     let lt : c.args.variable < c.args.self.now.count = omega arith in
     let owned : c.set_in.new.carried.items ≡ c.args.self.now.owned.items = c.set_in.ensures.listed ∙ unlisted c.args.self.now.owned.items c.args.variable (set_of c.args.at c.args.v) none in
     ap (λ (v : List (List Value)). let s : Sight = record { slots = c.args.self.now.slots; variables = v; seen = all_shown (values_in c.args.self.now.fifos.seen.items) c.args.self.now.ports } in s)
-    (ap (λ o. all_cells c.args.self.now.count o c.set_in-then-not-set_in.new.carried.items) owned
-    ∙ ap (all_cells c.args.self.now.count c.args.self.now.owned.items) c.set_in-then-not-set_in.ensures.listed
+    (ap (λ o. all_cells c.args.self.now.count o c.set_by_search.new.carried.items) owned
+    ∙ ap (all_cells c.args.self.now.count c.args.self.now.owned.items) c.set_by_search.ensures.listed
     ∙ set_copied c.args.self.now.count c.args.self.now.owned.items c.args.self.now.copied.items c.args.variable c.args.at c.args.v lt none)
 
 pub returns-then-not-set_in-clause-kept : goal.returns-then-not-set_in-clause-kept
