@@ -1,5 +1,5 @@
 -- Who may run, process by process.
-use Rattle.std.proofs.Common.{◌≡◌, ◌≢◌, ◌↔◌, Bool, IsTrue, IfSome, ℕ, ◌+◌, ◌<◌, inl, inr, ⊎_elim, List, length, Option, Some, None, refl, sym, ap, ◌∙◌, subst, arith, slice_index_or}
+use Rattle.std.proofs.Common.{◌≡◌, ◌≢◌, ◌↔◌, Bool, IsTrue, IfSome, ℕ, ◌+◌, ◌<◌, ◌⊎◌, inl, inr, ⊎_elim, List, length, Option, Some, None, refl, sym, ap, ◌∙◌, subst, arith, slice_index_or}
 use Rattle.std.proofs.lemmas.Bool.{cases_eq, cases_lt, cases_order}
 use Rattle.std.proofs.lemmas.List.{get_or_past}
 use Rattle.ooo_time.specs.declared.stamp.Stamp.{Stamp}
@@ -16,7 +16,7 @@ use Rattle.ooo_fronts.specs.declared.choice.Choice.{Choice}
 use Rattle.ooo_fronts.specs.declared.choice.State.TheVariants.{Waiting}
 use Rattle.ooo_fronts.specs.declared.front.Front.{Front}
 use Rattle.ooo_fronts.specs.Fronts.{AreFrontsOf, front_is, maybe_front}
-use Rattle.ooo_fronts.specs.Choices.{AllBelowLimit, IsBelowLimit, IsBest, IsBestBelow, IsChoiceOf, IsEarlierOf, IsPick, IsReady, IsReadyAt, MayRunNow, PicksLeast}
+use Rattle.ooo_fronts.specs.Choices.{AllBelowLimit, IsBelowLimit, IsBest, IsBestBelow, IsChoiceOf, IsPick, IsReady, IsReadyAt, MayRunNow, PicksLeast}
 use Rattle.ooo_fronts.proofs.Below.{below_before}
 use Rattle.ooo_fronts.proofs.Earliest.{earliest, least_on_board}
 use Rattle.ooo_fronts.proofs.Leasts.{least_below, not_at_limit, some_is, some_least}
@@ -59,6 +59,13 @@ below_more choice n all one q k =
     ⊎_elim (λ e. subst (IsBelowLimit choice) (sym e) one) (λ d. all q (⊎_elim (λ x. x) (λ x. absurd (d (omega (arith, x, k)))) (cases_lt q n))) (cases_eq q n)
 
 -- ---- the best of those so far
+
+-- the earlier of two places, of those that there are: the first, where the second isn't before it
+abbrev pub IsEarlierOf : Option Place → Option Place → Option Place → Type 0
+IsEarlierOf None other result = result ≡ other
+IsEarlierOf (Some best) None result = result ≡ Some best
+IsEarlierOf (Some best) (Some other) result =
+    ComesBefore other best × (result ≡ Some other) ⊎ (ComesBefore other best → ⊥) × (result ≡ Some best)
 
 module _ (r : Rules) (least : Advance) (b : Board r) (n : ℕ) where
   under : (q : ℕ) → q < n + 1 → q ≢ n → q < n

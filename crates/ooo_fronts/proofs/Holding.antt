@@ -7,7 +7,7 @@ use Rattle.std.specs.Prelude.{slice_get, is_some, Contains, ◌↔◌, []}
 use Rattle.ooo_time.specs.declared.stamp.Stamp.{Stamp}
 use Rattle.ooo_time.specs.declared.delay.Delay.{Delay}
 use Rattle.ooo_time.specs.Delays.{advanced}
-use Rattle.ooo_time.specs.Stamps.{is_before}
+use Rattle.ooo_time.specs.Stamps.{IsBefore, is_before}
 use Rattle.ooo_meaning.specs.World.{same_stamp}
 use Rattle.ooo_code.specs.declared.segment.Segment.{Segment}
 use Rattle.ooo_access.specs.Access.{AreAscending}
@@ -20,7 +20,8 @@ use Rattle.ooo_tables.specs.declared.tables.Tables.{Tables}
 use Rattle.ooo_fronts.specs.declared.front.Front.{Front}
 use Rattle.ooo_fronts.specs.Fronts.{AreAligned, IsFit, process_in}
 use Rattle.ooo_fronts.specs.Holds.{HoldsByNoOther, clashes_at, if_clashing, hold_at, holds_of}
-use Rattle.ooo_fronts.specs.Reaching.{CanHoldProcess, IsListOf, LeadsTo}
+use Rattle.ooo_fronts.specs.Reaching.{CanHoldProcess, IsListOf, IsMetBy, LeadsTo, Meets}
+use Rattle.ooo_fronts.proofs.Orders.{before_yes}
 use Rattle.ooo_fronts.proofs.Totals.{none_counted}
 
 -- what clashes at all clashes strictly
@@ -94,6 +95,27 @@ clashing_strictly t g p f b s h =
     let r = found_by t g p f b s h in
     strictly (is_before s f.stamp) (same_stamp s f.stamp) (nat_lt (process_in t b) p) (kind_at t.clash b f.segment) r.clashes
 
+-- and is of another process
+pub meets_held : (t : Tables) (g : Front) (p : ℕ) (f : Front) (b : ℕ) (s : Stamp) → IsFit t p f → hold_at t g p f b ≡ Some s → Meets t b f.segment
+meets_held t g p f b s fit h = (λ same. eqb-false (process_in t b) p (found_by t g p f b s h).other (same ∙ fit.process), clashing_strictly t g p f b s h)
+
+-- ---- whether a segment that meets a front holds it up
+
+-- it is of another process
+pub meets_other : (t : Tables) (p : ℕ) (f : Front) (b : ℕ) → IsFit t p f → Meets t b f.segment → process_in t b ≢ p
+meets_other t p f b fit m = λ e. m.0 (e ∙ sym fit.process)
+
+pub unled : (t : Tables) (g : Front) (p : ℕ) (f : Front) (b : ℕ) → IsFit t p f → Meets t b f.segment → entry_at t.advance g.segment b ≡ None → false ≡ is_some (hold_at t g p f b)
+unled t g p f b fit m e = ap (λ (o : Option Stamp). is_some o) (none_unled t g p f b (meets_other t p f b fit m) e)
+
+pub as_it_clashes : (t : Tables) (g : Front) (p : ℕ) (f : Front) (b : ℕ) (d : Delay) → IsFit t p f → Meets t b f.segment → entry_at t.advance g.segment b ≡ Some d → (x : Bool) → x ≡ clashes_at t b (advanced g.stamp d) p f → x ≡ is_some (hold_at t g p f b)
+as_it_clashes t g p f b d fit m e true c = ap (λ (o : Option Stamp). is_some o) (some_clashing t g p f b d (meets_other t p f b fit m) e (sym c))
+as_it_clashes t g p f b d fit m e false c = ap (λ (o : Option Stamp). is_some o) (none_apart t g p f b d (meets_other t p f b fit m) e (sym c))
+
+-- at an earlier stamp it does
+pub clashes_before : (t : Tables) (b : ℕ) (s : Stamp) (p : ℕ) (f : Front) → IsBefore s f.stamp → Meets t b f.segment → true ≡ clashes_at t b s p f
+clashes_before t b s p f early m = rw (before_yes s f.stamp early) (sym m.1)
+
 -- a test of a value that is there
 pub is_there : {A : Type 0} (o : Option A) → is_some o ≡ true → (x : A) × (o ≡ Some x)
 is_there None h = absurd cc
@@ -130,6 +152,18 @@ leads_are_all t g p f xs is = record {
     at b lt out None e = ap (λ (o : Option Stamp). is_some o) e
     at b lt out (Some s) e = absurd (out ((is.exact b).1 (lt, ap (λ (o : Option Delay). is_some o) (found_by t g p f b s e).leads)))
 
+-- and those that meet its segment
+pub meeting_are_all : (t : Tables) (g : Front) (p : ℕ) (f : Front) (xs : List ℕ) → IsFit t p f → IsListOf (IsMetBy t f.segment) xs → HoldsByNoOther t g p f xs
+meeting_are_all t g p f xs fit is = record {
+  ascending = is.ascending;
+  within = λ b c. ((is.exact b).0 c).0;
+  others = λ b lt out. at b lt out (hold_at t g p f b) refl;
+}
+  where
+    at : (b : ℕ) → b < length t.graph.segments → (Contains xs b → ⊥) → (o : Option Stamp) → hold_at t g p f b ≡ o → is_some (hold_at t g p f b) ≡ false
+    at b lt out None e = ap (λ (o : Option Stamp). is_some o) e
+    at b lt out (Some s) e = absurd (out ((is.exact b).1 (lt, meets_held t g p f b s fit e)))
+
 -- a front that can't hold up the process of another one doesn't
 pub cannot_hold : (t : Tables) (g : Front) (p : ℕ) (f : Front) → IsFit t p f → (CanHoldProcess t g.segment p → ⊥) → holds_of t g p f ≡ 0
 unfolding holds_of
@@ -139,7 +173,6 @@ cannot_hold t g p f fit out = none_counted (λ b. is_some (hold_at t g p f b)) (
     at b lt None e = ap (λ (o : Option Stamp). is_some o) e
     at b lt (Some s) e =
         let r = found_by t g p f b s e in
-        let other : process_in t b ≢ process_in t f.segment = λ same. eqb-false (process_in t b) p r.other (same ∙ fit.process) in
         absurd (
         out (
           f.segment,
@@ -148,7 +181,7 @@ cannot_hold t g p f fit out = none_counted (λ b. is_some (hold_at t g p f b)) (
           record {
             by = b;
             leads = (lt, ap (λ (o : Option Delay). is_some o) r.leads);
-            meets = (other, clashing_strictly t g p f b s e);
+            meets = meets_held t g p f b s fit e;
           },
         ))
 

@@ -7,6 +7,7 @@ pub mod Reached
 pub mod Orders
 pub mod Holding
 pub mod Timing
+pub mod Meeting
 pub mod Counted
 pub mod Mending
 pub mod Ruling

@@ -1,15 +1,14 @@
 -- Lists of the numbers that are put into a set one after another.
-use Rattle.std.proofs.Common.{◌≡◌, ◌∙◌, refl, sym, ap, subst, arith, ℕ, ◌+◌, ◌<◌, ◌≤◌, ◌↔◌, ◌⊎◌, inl, inr, Bool, IsTrue, Some, List, [], ◌∷◌, ◌++◌, length, get_or, Result, Ok, Err}
-use Rattle.std.specs.Prelude.{All, Contains, IfOk, is_some}
+use Rattle.std.proofs.Common.{◌≡◌, ◌∙◌, refl, sym, ap, subst, arith, ℕ, ◌+◌, ◌<◌, ◌≤◌, ◌↔◌, ◌⊎◌, inl, inr, Bool, IsTrue, List, [], ◌∷◌, ◌++◌, length, get_or, Result, Ok, Err}
+use Rattle.std.specs.Prelude.{All, Contains, IfOk}
 use Rattle.std.proofs.lemmas.Bool.{cases_lt}
 use Rattle.std.proofs.lemmas.List.{get_or_default, get_or_append_left, get_or_push, length_push}
 use Rattle.std.proofs.lemmas.List.Elements.{Contains-get_or}
 use Rattle.ooo_segments.specs.Numbers.{IsIn, AreNumbersOf}
-use Rattle.ooo_advance.specs.Rows.{entry_at}
-use Rattle.ooo_advance.specs.Walks.{no_delay}
 use Rattle.ooo_tables.specs.declared.tables.Tables.{Tables}
+use Rattle.ooo_fronts.specs.declared.reaching.Relation.{Relation}
 use Rattle.ooo_fronts.specs.Fronts.{process_in}
-use Rattle.ooo_fronts.specs.Reaching.{AreListsOf, CanBeHeldBy, CanHoldProcess, IsListOf, LeadsAtOnce, LeadsTo, Meets, MeetsProcess}
+use Rattle.ooo_fronts.specs.Reaching.{AreListsOf, CanBeHeldBy, CanHoldProcess, IsListOf, LeadsTo, Meets, MeetsProcess, Relates, RelatesTo}
 
 -- ---- sets
 
@@ -65,23 +64,13 @@ pub if_ok : {A E : Type 0} (P Q : A → Type 0) (r : Result A E) → ((x : A) �
 if_ok P Q (Ok x) f h = f x h
 if_ok P Q (Err e) f h = tt
 
--- segment b, if segment a leads to it
-abbrev pub Leading : Tables → (a b n : ℕ) → Type 0
-Leading t a b n = IsTrue (is_some (entry_at t.advance a b)) × (n ≡ b)
+-- segment b, if segment a stands so to it
+abbrev pub Related : Tables → Relation → (a b n : ℕ) → Type 0
+Related t k a b n = Relates t k a b × (n ≡ b)
 
-pub leads_all : (t : Tables) (a : ℕ) (n : ℕ) → ((j : ℕ) × (j < length t.graph.segments) × Leading t a j n) ↔ LeadsTo t a n
-leads_all t a n = (
-  λ w. let e = sym w.2.1 in subst (LeadsTo t a) e (w.1, w.2.0),
-  λ w. (n, w.0, (w.1, refl)),
-)
-
--- segment b, if segment a leads to it with no delay
-abbrev pub Staying : Tables → (a b n : ℕ) → Type 0
-Staying t a b n = (entry_at t.advance a b ≡ Some no_delay) × (n ≡ b)
-
-pub stays_all : (t : Tables) (a : ℕ) (n : ℕ) → ((j : ℕ) × (j < length t.graph.segments) × Staying t a j n) ↔ LeadsAtOnce t a n
-stays_all t a n = (
-  λ w. let e = sym w.2.1 in subst (LeadsAtOnce t a) e (w.1, w.2.0),
+pub related_all : (t : Tables) (k : Relation) (a n : ℕ) → ((j : ℕ) × (j < length t.graph.segments) × Related t k a j n) ↔ RelatesTo t k a n
+related_all t k a n = (
+  λ w. let e = sym w.2.1 in subst (RelatesTo t k a) e (w.1, w.2.0),
   λ w. (n, w.0, (w.1, refl)),
 )
 

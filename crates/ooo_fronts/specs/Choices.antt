@@ -1,5 +1,5 @@
 -- Which process may run, and which one is picked.
-use Rattle.std.specs.Prelude.{◌≡◌, ◌≢◌, ◌↔◌, ℕ, ◌<◌, ◌≤◌, ◌⊎◌, List, [], Option, None, Some, length, slice_index_or}
+use Rattle.std.specs.Prelude.{◌≡◌, ◌≢◌, ◌↔◌, ℕ, ◌<◌, ◌≤◌, List, [], Option, None, Some, length, slice_index_or}
 use Rattle.ooo_time.specs.declared.stamp.Stamp.{Stamp}
 use Rattle.ooo_time.specs.declared.stamp.Place.{Place}
 use Rattle.ooo_time.specs.Stamps.{ComesBefore}
@@ -80,13 +80,6 @@ pub record IsBest (r : Rules) (least : Advance) (b : Board r) (n : ℕ) (at : Pl
 abbrev pub IsBestBelow : (r : Rules) → Advance → Board r → (n : ℕ) → Option Place → Type 0
 IsBestBelow r least b n None = (q : ℕ) (g : Front Stamp) → q < n → IsReady r least b q g → ⊥
 IsBestBelow r least b n (Some at) = IsBest r least b n at
-
--- the earlier of two places, of those that there are: the first, where the second isn't before it
-abbrev pub IsEarlierOf : Option Place → Option Place → Option Place → Type 0
-IsEarlierOf None other result = result ≡ other
-IsEarlierOf (Some best) None result = result ≡ Some best
-IsEarlierOf (Some best) (Some other) result =
-    ComesBefore other best × (result ≡ Some other) ⊎ (ComesBefore other best → ⊥) × (result ≡ Some best)
 
 -- ---- when none will
 

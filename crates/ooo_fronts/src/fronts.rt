@@ -84,10 +84,10 @@ impl Fronts {
     }
 
     /// Gives process `p` this front, and mends the counts. It takes no memory, and goes over no processes but those that the
-    /// old front or the new one can hold up, and those that can hold the new one up: of each over the fewer of the segments
-    /// to which the holding front leads, and of those that clash strictly with the one that is held. Where both are at the
-    /// same stamp, it goes only over the segments to which the holding front leads with no delay, and where the one that is
-    /// held comes before it, over none.
+    /// old front or the new one can hold up, and those that can hold the new one up. Of each two it looks up the least delay
+    /// by which the holding front leads to a segment that meets the held one, and counts only where the held one doesn't come
+    /// before that: over the fewer of the segments to which the holding front leads, and of those that meet the held one. At
+    /// one stamp it goes only over the segments to which the holding front leads with no delay.
     pub fn set(&mut self, tables: &Tables, reaches: &Reaches, p: u32, front: Option<Front>)
         requires aligned { AreAligned tables.now }
         requires reaches { AreReaches tables.now reaches.now }
@@ -266,7 +266,7 @@ fn holds_from(
     requires aligned { AreAligned tables.now }
     requires reaches { AreReaches tables.now reaches.now }
     requires fit { AreFit tables.now fronts.now }
-    requires front { f.segment < length tables.now.graph.segments }
+    requires held { IsFit tables.now p f }
     ensures { result ≡ holds_from tables.now fronts.now p f q }
 {
     if q == p {

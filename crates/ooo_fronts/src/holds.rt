@@ -1,8 +1,8 @@
-ghost use Rattle.std.specs.Prelude.{◌≡◌, ◌<◌, ◌≤◌, length};
+ghost use Rattle.std.specs.Prelude.{◌≡◌, ◌<◌, ◌≤◌, is_some, length};
 ghost use Rattle.ooo_fronts.specs.declared.front.Front.{Front as FrontSpec};
-ghost use Rattle.ooo_fronts.specs.Fronts.{AreAligned, IsFitOfItself, process_in};
+ghost use Rattle.ooo_fronts.specs.Fronts.{AreAligned, IsFit, IsFitOfItself, process_in};
 ghost use Rattle.ooo_fronts.specs.Holds.{clashes_at, hold_at, holds_of, maybe_holds_of, HoldsByNoOther, IsFirstBy};
-ghost use Rattle.ooo_fronts.specs.Reaching.{AreReaches};
+ghost use Rattle.ooo_fronts.specs.Reaching.{AreReaches, IsListOf, IsMetBy, Meets};
 
 use crate::front::Front;
 use crate::reaching::Reaches;
@@ -67,7 +67,7 @@ pub(crate) fn maybe_holds_of(
     requires aligned { AreAligned tables.now }
     requires reaches { AreReaches tables.now reaches.now }
     requires fit { (h : FrontSpec) → g ≡ Some h → IsFitOfItself tables.now h }
-    requires front { f.segment < length tables.now.graph.segments }
+    requires held { IsFit tables.now p f }
     ensures exact { result ≡ maybe_holds_of tables.now g p f }
     ensures few { result ≤ length tables.now.graph.segments }
 {
@@ -77,30 +77,101 @@ pub(crate) fn maybe_holds_of(
     }
 }
 
-// By how many segments the front g holds the front f of process p up. It leads to nothing before its own stamp: so by none a
-// front that comes before it, and one at its stamp only by segments to which it leads with no delay. A later one only by
-// segments to which it leads and that clash strictly with f's, so it goes over whichever of these and those are fewer.
+// By how many segments the front g holds the front f of process p up: by none, where f comes before it.
+#[inline(always)]
 pub(crate) fn holds_of(tables: &Tables, reaches: &Reaches, g: Front, p: u32, f: Front) -> u32
     requires aligned { AreAligned tables.now }
     requires reaches { AreReaches tables.now reaches.now }
     requires fit { IsFitOfItself tables.now g }
-    requires front { f.segment < length tables.now.graph.segments }
+    requires held { IsFit tables.now p f }
     ensures exact { result ≡ holds_of tables.now g p f }
     ensures few { result ≤ length tables.now.graph.segments }
 {
     if f.stamp.is_before(g.stamp) {
         return 0;
     }
+    holds_ahead(tables, reaches, g, p, f)
+}
+
+// The same, of a front that doesn't come before the other one: none, where it comes before each of those that meet it and to
+// which the other leads.
+#[inline(always)]
+fn holds_ahead(tables: &Tables, reaches: &Reaches, g: Front, p: u32, f: Front) -> u32
+    requires aligned { AreAligned tables.now }
+    requires reaches { AreReaches tables.now reaches.now }
+    requires fit { IsFitOfItself tables.now g }
+    requires held { IsFit tables.now p f }
+    ensures exact { result ≡ holds_of tables.now g p f }
+    ensures few { result ≤ length tables.now.graph.segments }
+{
+    let Some(delay) = reaches.soonest(g.segment, f.segment) else {
+        return 0;
+    };
+    if f.stamp.is_before(advance(g.stamp, delay)) {
+        return 0;
+    }
+    count_holds(tables, reaches, g, p, f)
+}
+
+// The same, by counting. The one leads to nothing before its own stamp: so another at its stamp is held up only by segments to
+// which it leads with no delay. A later one only by segments to which it leads and that meet f's, so it goes over whichever of
+// these and those are fewer.
+fn count_holds(tables: &Tables, reaches: &Reaches, g: Front, p: u32, f: Front) -> u32
+    requires aligned { AreAligned tables.now }
+    requires reaches { AreReaches tables.now reaches.now }
+    requires fit { IsFitOfItself tables.now g }
+    requires held { IsFit tables.now p f }
+    ensures exact { result ≡ holds_of tables.now g p f }
+    ensures few { result ≤ length tables.now.graph.segments }
+{
     if f.stamp == g.stamp {
         return count_among(tables, reaches.at_once(g.segment), g, p, f);
     }
     let leads = reaches.leads(g.segment);
-    let clashing = tables.clash.clashing(f.segment);
-    if leads.len() <= clashing.len() {
+    let meeting = reaches.meeting(f.segment);
+    if leads.len() <= meeting.len() {
         count_among(tables, leads, g, p, f)
     } else {
-        count_among(tables, clashing, g, p, f)
+        count_meeting(tables, meeting, g, p, f)
     }
+}
+
+// By how many of these segments, which are all that meet f's, the front g holds the front f of process p up.
+fn count_meeting(tables: &Tables, meeting: &[u32], g: Front, p: u32, f: Front) -> u32
+    requires aligned { AreAligned tables.now }
+    requires all { IsListOf (IsMetBy tables.now f.segment) meeting.now }
+    requires fit { IsFitOfItself tables.now g }
+    requires held { IsFit tables.now p f }
+    ensures { result ≡ holds_of tables.now g p f }
+{
+    let mut count = 0;
+    for b in meeting {
+        if holds_by(tables, g, p, f, *b) {
+            count += 1;
+        }
+    }
+    count
+}
+
+// Whether the front g holds the front f of process p up by segment b, which meets f's. So it does wherever it leads to it at an
+// earlier stamp.
+#[inline(always)]
+fn holds_by(tables: &Tables, g: Front, p: u32, f: Front, b: u32) -> bool
+    requires aligned { AreAligned tables.now }
+    requires segment { b < length tables.now.graph.segments }
+    requires meets { Meets tables.now b f.segment }
+    requires fit { IsFitOfItself tables.now g }
+    requires held { IsFit tables.now p f }
+    ensures { result ≡ is_some (hold_at tables.now g p f b) }
+{
+    let Some(delay) = tables.advance.least(g.segment, b) else {
+        return false;
+    };
+    let at = advance(g.stamp, delay);
+    if at.is_before(f.stamp) {
+        return true;
+    }
+    clashes_at(tables, b, at, p, f)
 }
 
 // By how many of these segments the front g holds the front f of process p up, where it does so by no other.

@@ -11,6 +11,7 @@ mod fronts;
 mod holds;
 pub mod law;
 mod reaching;
+mod soonest;
 
 pub use choice::{Choice, State};
 pub use cut::{Break, Cut};

@@ -1,13 +1,14 @@
-ghost use Rattle.std.specs.Prelude.{◌≡◌, ◌≢◌, ◌^◌, ◌<◌, ◌≤◌, ◌⊎◌, ◌↔◌, ℕ, ◌+◌, Some, [], length, slice_index_or, All, Contains, IfOk, OnOk, IsTrue};
+ghost use Rattle.std.specs.Prelude.{◌≡◌, ◌≢◌, ◌^◌, ◌<◌, ◌≤◌, ◌⊎◌, ◌↔◌, ℕ, Some, [], length, slice_index_or, All, Contains, IfOk, OnOk, IsTrue};
 ghost use Rattle.ooo_access.specs.Access.{AreAscending};
 ghost use Rattle.ooo_advance.specs.Rows.{entry_at};
 ghost use Rattle.ooo_advance.specs.Walks.{no_delay};
 ghost use Rattle.ooo_segments.specs.Beginnings.{greatest_segments};
 ghost use Rattle.ooo_segments.specs.Numbers.{IsIn};
 ghost use Rattle.ooo_fronts.specs.Fronts.{AreAligned, process_in};
-ghost use Rattle.ooo_fronts.specs.Reaching.{AreListsOf, AreReaches, CanBeHeldBy, CanHoldProcess, IsListOf, LeadsAtOnce, LeadsTo, Meets, MeetsProcess};
+ghost use Rattle.ooo_fronts.specs.Reaching.{AreListsOf, AreReaches, CanBeHeldBy, CanHoldProcess, IsListOf, LeadsTo, Meets, MeetsProcess, Relates, RelatesTo};
 
 use crate::holds::process_of;
+use crate::soonest::all_soonest;
 use ooo_segments::NumberSet;
 use ooo_tables::Tables;
 use ooo_time::Delay;
@@ -23,10 +24,14 @@ pub struct Reaches {
     leads: Vec<Items<u32>>,
     // Of each segment those to which it leads with no delay.
     at_once: Vec<Items<u32>>,
+    // Of each segment those that meet it.
+    meeting: Vec<Items<u32>>,
     // Of each segment the processes that it can hold up.
     affected: Vec<Items<u32>>,
     // Of each process those by which it can be held up.
     holders: Vec<Items<u32>>,
+    // Of each two segments the least delay by which the first leads to one that meets the second.
+    soonest: Vec<Items<Option<Delay>>>,
 }
 
 impl Model for Reaches {
@@ -34,7 +39,14 @@ impl Model for Reaches {
 
     ghost Value = { Reached };
 
-    ghost view = { λ r. record { leads = r.leads.items; at_once = r.at_once.items; affected = r.affected.items; holders = r.holders.items } };
+    ghost view = { λ r. record {
+      leads = r.leads.items;
+      at_once = r.at_once.items;
+      meeting = r.meeting.items;
+      affected = r.affected.items;
+      holders = r.holders.items;
+      soonest = r.soonest.items;
+    } };
 }
 
 impl Reaches {
@@ -47,16 +59,20 @@ impl Reaches {
         requires aligned { AreAligned tables.now }
         ensures { IfOk result (AreReaches tables.now) }
     {
-        let leads = all_leads(alloc, tables)?;
-        let at_once = all_at_once(alloc, tables)?;
+        let leads = all_related(alloc, tables, Relation::Leads)?;
+        let at_once = all_related(alloc, tables, Relation::AtOnce)?;
+        let meeting = all_related(alloc, tables, Relation::Met)?;
         let met = all_met(alloc, tables)?;
         let affected = all_affected(alloc, tables, leads.as_slice(), met.as_slice())?;
         let holders = all_holders(alloc, tables, affected.as_slice())?;
+        let soonest = all_soonest(alloc, tables)?;
         Ok(Reaches {
             leads,
             at_once,
+            meeting,
             affected,
             holders,
+            soonest,
         })
     }
 
@@ -76,6 +92,14 @@ impl Reaches {
         self.at_once[a as usize].as_slice()
     }
 
+    // The segments that meet segment c, ascending.
+    pub(crate) fn meeting(&self, c: u32) -> &[u32]
+        requires { c < length self.now.meeting }
+        ensures { result.now ≡ slice_index_or self.now.meeting c [] }
+    {
+        self.meeting[c as usize].as_slice()
+    }
+
     // The processes that a front of segment a can hold up, ascending.
     pub(crate) fn affected(&self, a: u32) -> &[u32]
         requires { a < length self.now.affected }
@@ -91,66 +115,82 @@ impl Reaches {
     {
         self.holders[p as usize].as_slice()
     }
+
+    // The least delay by which segment a leads to one that meets segment c.
+    #[inline(always)]
+    pub(crate) fn soonest(&self, a: u32, c: u32) -> Option<Delay>
+        requires from { a < length self.now.soonest }
+        requires to { c < length (slice_index_or self.now.soonest a []) }
+        ensures { result ≡ entry_at self.now.soonest a c }
+    {
+        self.soonest[a as usize].as_slice()[c as usize]
+    }
 }
 
-// Of each segment those to which it leads.
-fn all_leads(alloc: Global, tables: &Tables) -> Result<Vec<Items<u32>>, AllocError>
+// How a segment stands to another one.
+#[derive(Clone, Copy, PartialEq, Eq, Debug)]
+enum Relation {
+    // It leads to the other.
+    Leads,
+    // It leads to the other with no delay.
+    AtOnce,
+    // It is met by the other.
+    Met,
+}
+
+// Of each segment those to which it stands so.
+fn all_related(
+    alloc: Global,
+    tables: &Tables,
+    relation: Relation,
+) -> Result<Vec<Items<u32>>, AllocError>
     requires aligned { AreAligned tables.now }
     ensures { IfOk result (λ lists.
-        AreListsOf (LeadsTo tables.now) (length tables.now.graph.segments) lists.items) }
+        AreListsOf (RelatesTo tables.now relation) (length tables.now.graph.segments) lists.items) }
 {
     let count = tables.graph.segments.len();
     let mut lists = Vec::with_capacity(alloc, count)?;
     for a in 0..count {
-        lists.push(leads_of(alloc, tables, a as u32)?)?;
+        lists.push(related_to(alloc, tables, relation, a as u32)?)?;
     }
     Ok(lists)
 }
 
-// The segments to which segment a leads.
-fn leads_of(alloc: Global, tables: &Tables, a: u32) -> Result<Items<u32>, AllocError>
+// The segments to which segment a stands so.
+fn related_to(
+    alloc: Global,
+    tables: &Tables,
+    relation: Relation,
+    a: u32,
+) -> Result<Items<u32>, AllocError>
     requires aligned { AreAligned tables.now }
     requires segment { a < length tables.now.graph.segments }
-    ensures { IfOk result (IsListOf (LeadsTo tables.now a)) }
+    ensures { IfOk result (IsListOf (RelatesTo tables.now relation a)) }
 {
     let mut set = NumberSet::new(alloc);
     for b in 0..tables.graph.segments.len() {
-        let leads = tables.advance.least(a, b as u32).is_some();
-        add_if(&mut set, leads, b as u32)?;
+        let is_one = relates(tables, relation, a, b as u32);
+        add_if(&mut set, is_one, b as u32)?;
     }
     set.numbers(alloc)
 }
 
-// Of each segment those to which it leads with no delay.
-fn all_at_once(alloc: Global, tables: &Tables) -> Result<Vec<Items<u32>>, AllocError>
+// Whether segment a stands so to segment b.
+fn relates(tables: &Tables, relation: Relation, a: u32, b: u32) -> bool
     requires aligned { AreAligned tables.now }
-    ensures { IfOk result (λ lists.
-        AreListsOf (LeadsAtOnce tables.now) (length tables.now.graph.segments) lists.items) }
+    requires one { a < length tables.now.graph.segments }
+    requires other { b < length tables.now.graph.segments }
+    ensures { IsTrue result ↔ Relates tables.now relation a b }
 {
-    let count = tables.graph.segments.len();
-    let mut lists = Vec::with_capacity(alloc, count)?;
-    for a in 0..count {
-        lists.push(at_once_of(alloc, tables, a as u32)?)?;
+    match relation {
+        Relation::Leads => tables.advance.least(a, b).is_some(),
+        Relation::AtOnce => leads_at_once(tables, a, b),
+        Relation::Met => meets(tables, b, a),
     }
-    Ok(lists)
-}
-
-// The segments to which segment a leads with no delay.
-fn at_once_of(alloc: Global, tables: &Tables, a: u32) -> Result<Items<u32>, AllocError>
-    requires aligned { AreAligned tables.now }
-    requires segment { a < length tables.now.graph.segments }
-    ensures { IfOk result (IsListOf (LeadsAtOnce tables.now a)) }
-{
-    let mut set = NumberSet::new(alloc);
-    for b in 0..tables.graph.segments.len() {
-        let leads = leads_at_once(tables, a, b as u32);
-        add_if(&mut set, leads, b as u32)?;
-    }
-    set.numbers(alloc)
 }
 
 // Whether segment a leads to segment b with no delay.
-fn leads_at_once(tables: &Tables, a: u32, b: u32) -> bool
+pub(crate) fn leads_at_once(tables: &Tables, a: u32, b: u32) -> bool
     requires aligned { AreAligned tables.now }
     requires one { a < length tables.now.graph.segments }
     requires other { b < length tables.now.graph.segments }
@@ -188,7 +228,7 @@ fn met_by(alloc: Global, tables: &Tables, b: u32) -> Result<Items<u32>, AllocErr
 }
 
 // Whether segment b meets segment c.
-fn meets(tables: &Tables, b: u32, c: u32) -> bool
+pub(crate) fn meets(tables: &Tables, b: u32, c: u32) -> bool
     requires aligned { AreAligned tables.now }
     requires one { b < length tables.now.graph.segments }
     requires other { c < length tables.now.graph.segments }
@@ -258,24 +298,11 @@ fn process_count(tables: &Tables) -> usize
         process_in tables.now a < result }
     ensures few { result ≤ 2 ^ 32 }
 {
-    let mut count = 0;
+    let mut count = 0usize;
     for a in 0..tables.graph.segments.len() {
-        count = above(count, process_of(tables, a as u32));
+        count = count.max(process_of(tables, a as u32) as usize + 1);
     }
     count
-}
-
-// The count, or one more than this process where that is more.
-fn above(count: usize, p: u32) -> usize
-    ensures one_of { (result ≡ count) ⊎ (result ≡ p + 1) }
-    ensures count { count ≤ result }
-    ensures process { p < result }
-{
-    if count <= p as usize {
-        p as usize + 1
-    } else {
-        count
-    }
 }
 
 // The processes by which a front of process p can be held up, where each segment can hold up these.

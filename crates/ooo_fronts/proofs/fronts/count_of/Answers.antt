@@ -30,8 +30,8 @@ loop-q-init c =
     let all = holders_are_all t a.reaches.now a.fronts.now a.p f xs c.requires.reaches c.requires.fit c.in-Some.is list in
     sym (added_first (holds_from t a.fronts.now a.p f) (length a.fronts.now + length a.reaches.now.holders) xs all)
 
-pub holds_from-count-requires-clause-front : goal.holds_from-count-requires-clause-front
-holds_from-count-requires-clause-front c = (fit_at c.args.tables.now c.args.fronts.now c.requires.fit c.args.p c.in-Some.f c.in-Some.is).segment
+pub holds_from-count-requires-clause-held : goal.holds_from-count-requires-clause-held
+holds_from-count-requires-clause-held c = fit_at c.args.tables.now c.args.fronts.now c.requires.fit c.args.p c.in-Some.f c.in-Some.is
 
 pub overflow_add-count : goal.overflow_add-count
 overflow_add-count c =

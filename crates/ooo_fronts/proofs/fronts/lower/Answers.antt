@@ -8,8 +8,8 @@ use Rattle.ooo_fronts.proofs.fronts.lower.Goals as goal
 pub holds_of-requires-clause-fit : goal.holds_of-requires-clause-fit
 holds_of-requires-clause-fit c = fit_itself c.args.tables.now c.args.p c.args.g (fit_at c.args.tables.now c.args.fronts.now c.requires.fit c.args.p c.args.g c.requires.own)
 
-pub holds_of-requires-clause-front : goal.holds_of-requires-clause-front
-holds_of-requires-clause-front c = (fit_at c.args.tables.now c.args.fronts.now c.requires.fit c.args.q c.in-Some.f (sym c.front_at.ensures ∙ c.in-Some.is)).segment
+pub holds_of-requires-clause-held : goal.holds_of-requires-clause-held
+holds_of-requires-clause-held c = fit_at c.args.tables.now c.args.fronts.now c.requires.fit c.args.q c.in-Some.f (sym c.front_at.ensures ∙ c.in-Some.is)
 
 pub overflow_sub-counts : goal.overflow_sub-counts
 overflow_sub-counts c =

@@ -1,7 +1,0 @@
--- List by list.
-use Rattle.ooo_fronts.specs.Reaching.{LeadsTo}
-use Rattle.ooo_fronts.proofs.Listing.{lists_more}
-use Rattle.ooo_fronts.proofs.reaching.all_leads.Goals as goal
-
-pub loop-a-preserved : goal.loop-a-preserved
-loop-a-preserved c = rw c.in_ok-push.ensures.items (lists_more (LeadsTo c.args.tables.now) c.loop-a.a c.loop-a.lists.items c.in_ok-leads_of.field-0 c.loop-a.invariant c.in_ok-leads_of.ensures)
