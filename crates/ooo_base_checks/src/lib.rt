@@ -1,9 +1,11 @@
-//! Tests of the base: times, values, events and reports. What no clause says of `ooo_time`, `ooo_value`, `ooo_events` and
-//! `ooo_history`.
+//! Tests of the base: times, values, events, reports and generated texts. What no clause says of `ooo_time`, `ooo_value`,
+//! `ooo_events`, `ooo_history` and `ooo_gen`.
 #![tactic(auto)]
 
 #[cfg(test)]
 mod events;
+#[cfg(test)]
+mod generated;
 #[cfg(test)]
 mod history;
 #[cfg(test)]
