@@ -28,9 +28,9 @@ use Rattle.ooo_lower.specs.declared.designs.TheConstants.{GREATEST_SIZE}
 use Rattle.ooo_front.specs.Layers.{IsAccepted, IsElaborated, IsFrontOf, IsMisspelled, IsMistyped, IsSpelled, IsTooLarge, IsTooMany, elaborated, text_symbols}
 use Rattle.ooo_front.specs.Laws.{HasAnswer, HasOneAnswer}
 
--- what is accepted, of its two parts
-abbrev accepted_of : Bound → Design → Accepted
-accepted_of m d = record { bound = m; design = d }
+-- what is accepted, of its three parts
+abbrev accepted_of : Bound → Design → ℕ → Accepted
+accepted_of m d n = record { bound = m; design = d; segments = n }
 
 module _ (cut : IsCutOneWay) (uncut : HasNoCutting) (answer : OneAnswer) (typed : IsNotBoth) where
   -- what the lexer refuses is not cut, so it is not spelled
@@ -69,7 +69,9 @@ module _ (cut : IsCutOneWay) (uncut : HasNoCutting) (answer : OneAnswer) (typed 
   one_model text a b r s =
       let models : a.bound ≡ b.bound = one_bound text a.bound b.bound r.elaborated s.elaborated in
       let designs : a.design ≡ b.design = r.lowered.design ∙ ap design_of models ∙ sym s.lowered.design in
-      ap (λ (m : Bound). accepted_of m a.design) models ∙ ap (λ (d : Design). accepted_of b.bound d) designs
+      let counts : a.segments ≡ b.segments = r.segments ∙ ap (λ (d : Design). length (beginnings d)) designs ∙ sym s.segments in
+      ap (λ (m : Bound). accepted_of m a.design a.segments) models ∙ ap (λ (d : Design). accepted_of b.bound d a.segments) designs
+      ∙ ap (λ (n : ℕ). accepted_of b.bound b.design n) counts
 
   -- the code of its model is too large, or it isn't
   fits_or_not : (text : List ℕ) (a : Accepted) → IsAccepted text a → IsTooLarge text → ⊥
@@ -188,7 +190,15 @@ counted_answer : (text : List ℕ) (b : Bound) → IsElaborated text (Ok b) → 
 counted_answer text b is fits =
     ⊎_elim
     (λ many. (Err refused.TooManySegments, record { bound = b; elaborated = is; within = fits; many = many }))
-    (λ few. (Ok (accepted_of b (design_of b)), record { elaborated = is; lowered = record { design = refl; within = fits }; few = few }))
+    (λ few. (
+      Ok (accepted_of b (design_of b) (length (beginnings (design_of b)))),
+      record {
+        elaborated = is;
+        lowered = record { design = refl; within = fits };
+        segments = refl;
+        few = few;
+      },
+    ))
     (cases_lt greatest_segments (length (beginnings (design_of b))))
 
 -- the code of a bound model is too large, or it has a design

@@ -70,10 +70,11 @@ HasFew design = length (beginnings design) ≤ greatest_segments
 abbrev pub HasMany : Design → Type 0
 HasMany design = greatest_segments < length (beginnings design)
 
--- the text has this bound model, and its design, with no more segments than it may have
+-- the text has this bound model, and its design, whose segments are so many, and no more than it may have
 pub record IsAccepted (text : List ℕ) (accepted : Accepted) : Type 0 where
   pub elaborated : IsElaborated text (Ok accepted.bound)
   pub lowered : IsLowered accepted
+  pub segments : accepted.segments ≡ length (beginnings accepted.design)
   pub few : HasFew accepted.design
 
 -- the text has a bound model, whose code is too large

@@ -1,3 +1,3 @@
 pub mod Layers
-pub mod Steps
+pub mod Errors
 pub mod Laws

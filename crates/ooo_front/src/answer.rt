@@ -14,6 +14,8 @@ pub struct Accepted {
     pub bound: Bound,
     /// The design of its model: its statements as nodes.
     pub design: Design,
+    /// How many segments the design has.
+    pub segments: u32,
 }
 
 /// Why a text was not accepted: by the layer that refuses it, or since memory ran out.
@@ -37,7 +39,7 @@ pub enum Refused {
 
 impl From<LexError> for Refused {
     ghost use Rattle.std.specs.Prelude.{◌≡◌};
-    ghost use Rattle.ooo_front.specs.Steps.{refused_by_lexer};
+    ghost use Rattle.ooo_front.specs.Errors.{refused_by_lexer};
 
     ghost from_gives = { λ error own. own ≡ refused_by_lexer error };
 
@@ -51,7 +53,7 @@ impl From<LexError> for Refused {
 
 impl From<ParseError> for Refused {
     ghost use Rattle.std.specs.Prelude.{◌≡◌};
-    ghost use Rattle.ooo_front.specs.Steps.{refused_by_parser};
+    ghost use Rattle.ooo_front.specs.Errors.{refused_by_parser};
 
     ghost from_gives = { λ error own. own ≡ refused_by_parser error };
 
@@ -65,7 +67,7 @@ impl From<ParseError> for Refused {
 
 impl From<TypeError> for Refused {
     ghost use Rattle.std.specs.Prelude.{◌≡◌};
-    ghost use Rattle.ooo_front.specs.Steps.{refused_by_types};
+    ghost use Rattle.ooo_front.specs.Errors.{refused_by_types};
 
     ghost from_gives = { λ error own. own ≡ refused_by_types error };
 
@@ -79,7 +81,7 @@ impl From<TypeError> for Refused {
 
 impl From<ElabError> for Refused {
     ghost use Rattle.std.specs.Prelude.{◌≡◌};
-    ghost use Rattle.ooo_front.specs.Steps.{refused_by_elaboration};
+    ghost use Rattle.ooo_front.specs.Errors.{refused_by_elaboration};
 
     ghost from_gives = { λ error own. own ≡ refused_by_elaboration error };
 
@@ -93,7 +95,7 @@ impl From<ElabError> for Refused {
 
 impl From<LowerError> for Refused {
     ghost use Rattle.std.specs.Prelude.{◌≡◌};
-    ghost use Rattle.ooo_front.specs.Steps.{refused_by_lowering};
+    ghost use Rattle.ooo_front.specs.Errors.{refused_by_lowering};
 
     ghost from_gives = { λ error own. own ≡ refused_by_lowering error };
 

@@ -8,10 +8,10 @@ use Rattle.ooo_time.specs.declared.time.Scale.{Scale}
 use Rattle.ooo_words.specs.declared.options.CommandName.{CommandName}
 use Rattle.ooo_words.specs.declared.options.CommandName.TheVariants.{Run, Plain, Check, Tables, Bench}
 use Rattle.ooo_words.specs.declared.options.OptionName.TheVariants.{Stop, Workers, Deltas, Statements, Stages, Items, Seed}
-use Rattle.ooo_words.specs.Limits.{IsBetween, IsWithinLimits, StopsInTime}
+use Rattle.ooo_words.specs.Limits.{AreWithinLimits, IsBetween, IsWithinLimits, StopsInTime}
 use Rattle.ooo_words.specs.Numbers.{number_within, numeral_value, time_of, unit_named, within}
 use Rattle.ooo_words.specs.Options.{Text}
-use Rattle.ooo_words.specs.Reading.{Setting, command_of, given}
+use Rattle.ooo_words.specs.Reading.{Setting, command_of, given, run_options}
 
 in_range : (least greatest default n : ℕ) → IsBetween least greatest default → (b : Bool) → (nat_le least n && nat_le n greatest) ≡ b
     → IsBetween least greatest (unwrap_or (cond b (Some n) None) default)
@@ -50,18 +50,17 @@ stop_in (Some text) =
 between : (least greatest n : ℕ) → least ≤ n → n ≤ greatest → IsBetween least greatest n
 between least greatest n from to = record { from = from; to = to }
 
+run_options-limits : (settings : List Setting) → AreWithinLimits (run_options settings)
+run_options-limits settings = record {
+  stop = stop_in (given settings Stop);
+  deltas = given_in 1 1_000_000 10_000 (between _ _ _ (omega arith) (omega arith)) (given settings Deltas);
+  statements = given_in 1 1_000_000_000 1_000_000 (between _ _ _ (omega arith) (omega arith)) (given settings Statements);
+}
+
 pub command_of-limits : (command : CommandName) (settings : List Setting) → IsWithinLimits (command_of command settings)
-command_of-limits Run settings = (
-  stop_in (given settings Stop),
-  given_in 1 64 1 (between 1 64 1 (omega arith) (omega arith)) (given settings Workers),
-  given_in 1 1_000_000 10_000 (between _ _ _ (omega arith) (omega arith)) (given settings Deltas),
-  given_in 1 1_000_000_000 1_000_000 (between _ _ _ (omega arith) (omega arith)) (given settings Statements),
-)
-command_of-limits Plain settings = (
-  stop_in (given settings Stop),
-  given_in 1 1_000_000 10_000 (between _ _ _ (omega arith) (omega arith)) (given settings Deltas),
-  given_in 1 1_000_000_000 1_000_000 (between _ _ _ (omega arith) (omega arith)) (given settings Statements),
-)
+command_of-limits Run settings =
+    (run_options-limits settings, given_in 1 64 1 (between 1 64 1 (omega arith) (omega arith)) (given settings Workers))
+command_of-limits Plain settings = run_options-limits settings
 command_of-limits Check settings = tt
 command_of-limits Tables settings = tt
 command_of-limits Bench settings = (

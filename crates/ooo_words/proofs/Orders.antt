@@ -10,6 +10,7 @@ use Rattle.std.proofs.lemmas.List.Sorted.{All-permutation, sum_by-IsPermutation}
 use Rattle.std.proofs.lemmas.List.Sums.{sum_by-cons}
 use Rattle.std.proofs.lemmas.Slice.Eq.{bytes_eq-Decides}
 use Rattle.ooo_words.specs.declared.command.Command.{Command}
+use Rattle.ooo_words.specs.declared.command.RunOptions.{RunOptions}
 use Rattle.ooo_words.specs.declared.command.Command.TheVariants as command
 use Rattle.ooo_words.specs.declared.options.CommandName.{CommandName}
 use Rattle.ooo_words.specs.declared.options.CommandName.TheVariants as name
@@ -21,7 +22,7 @@ use Rattle.ooo_words.specs.Laws.{Begins, Given, IsReadInAnyOrder, IsReadOneWay, 
 use Rattle.ooo_words.specs.Limits.{default_workers, default_deltas, default_statements, default_stages, default_items, default_seed}
 use Rattle.ooo_words.specs.Numbers.{number_of, time_of}
 use Rattle.ooo_words.specs.Options.{Text, command_named, option_word}
-use Rattle.ooo_words.specs.Reading.{Setting, breach_of, breach_or, command_of, first_breach, given, is_equals, is_met, joined_setting, option_breach, reading, reading_of, refused_with, settings_of, unless_breached, value_breach}
+use Rattle.ooo_words.specs.Reading.{Setting, breach_of, breach_or, command_of, first_breach, given, is_equals, is_met, joined_setting, option_breach, reading, reading_of, refused_with, run_options, settings_of, unless_breached, value_breach}
 use Rattle.ooo_words.proofs.Parses.{Fine, breaches_of, fine, same_bytes, setting_for}
 
 -- ---- the words of settings
@@ -262,18 +263,22 @@ same_given o xs ys permuted single =
 
 -- ---- the command
 
+abbrev options_by : Option Text → Option Text → Option Text → RunOptions
+options_by stop deltas statements = record {
+  stop = option_and_then time_of stop;
+  deltas = unwrap_or (option_and_then (number_of Deltas) deltas) default_deltas;
+  statements = unwrap_or (option_and_then (number_of Statements) statements) default_statements;
+}
+
+same_options : (xs ys : List Setting) → ((o : OptionName) → given xs o ≡ given ys o) → run_options xs ≡ run_options ys
+same_options xs ys same =
+    ap₂ (λ s d. options_by s d (given xs Statements)) (same Stop) (same Deltas) ∙ ap (options_by (given ys Stop) (given ys Deltas)) (same Statements)
+
 same_command : (c : CommandName) (xs ys : List Setting) → ((o : OptionName) → given xs o ≡ given ys o)
     → command_of c xs ≡ command_of c ys
 same_command name.Run xs ys same =
-    let stop = option_and_then time_of in
-    let number : ℕ → OptionName → Option Text → ℕ = λ default o text. unwrap_or (option_and_then (number_of o) text) default in
-    ap₂ (λ s w. command.Run (stop s) (number default_workers Workers w) (number default_deltas Deltas (given xs Deltas)) (number default_statements Statements (given xs Statements))) (same Stop) (same Workers)
-    ∙ ap₂ (λ d s. command.Run (stop (given ys Stop)) (number default_workers Workers (given ys Workers)) (number default_deltas Deltas d) (number default_statements Statements s)) (same Deltas) (same Statements)
-same_command name.Plain xs ys same =
-    let stop = option_and_then time_of in
-    let number : ℕ → OptionName → Option Text → ℕ = λ default o text. unwrap_or (option_and_then (number_of o) text) default in
-    ap₂ (λ s d. command.Plain (stop s) (number default_deltas Deltas d) (number default_statements Statements (given xs Statements))) (same Stop) (same Deltas)
-    ∙ ap (λ s. command.Plain (stop (given ys Stop)) (number default_deltas Deltas (given ys Deltas)) (number default_statements Statements s)) (same Statements)
+    ap₂ (λ o w. command.Run o (unwrap_or (option_and_then (number_of Workers) w) default_workers)) (same_options xs ys same) (same Workers)
+same_command name.Plain xs ys same = ap command.Plain (same_options xs ys same)
 same_command name.Check xs ys same = refl
 same_command name.Tables xs ys same = refl
 same_command name.Bench xs ys same =

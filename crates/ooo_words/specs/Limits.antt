@@ -1,8 +1,9 @@
 -- The limits of the words, and what every command keeps of them.
-use Rattle.std.specs.Prelude.{ℕ, ◌≤◌, Option, IfSome}
+use Rattle.std.specs.Prelude.{ℕ, ◌≤◌, Option, None, IfSome}
 use Rattle.ooo_time.specs.Scales.{greatest_time}
 use Rattle.ooo_time.specs.declared.time.Time.{Time}
 use Rattle.ooo_words.specs.declared.command.Command.{Command}
+use Rattle.ooo_words.specs.declared.command.RunOptions.{RunOptions}
 use Rattle.ooo_words.specs.declared.command.Command.TheVariants.{Run, Plain, Check, Tables, Bench}
 
 -- ---- how many digits a number of the words may have, and one of a time
@@ -55,6 +56,10 @@ default_items = 16
 abbrev pub default_seed : ℕ
 default_seed = 1
 
+-- what is asked of a run where the words say nothing of it
+abbrev pub by_default : RunOptions
+by_default = record { stop = None; deltas = default_deltas; statements = default_statements }
+
 -- ---- what every command keeps
 
 -- a number of this range
@@ -66,13 +71,16 @@ pub record IsBetween (least greatest n : ℕ) : Type 0 where
 abbrev pub StopsInTime : Option Time → Type 0
 StopsInTime stop = IfSome stop (λ time. time.0 ≤ greatest_time)
 
+-- what is asked of a run is in the range of each option
+pub record AreWithinLimits (options : RunOptions) : Type 0 where
+  pub stop : StopsInTime options.stop
+  pub deltas : IsBetween 1 most_deltas options.deltas
+  pub statements : IsBetween 1 most_statements options.statements
+
 -- each number of the command is in the range of its option
 abbrev pub IsWithinLimits : Command → Type 0
-IsWithinLimits (Run stop workers deltas statements) =
-    StopsInTime stop × IsBetween 1 most_workers workers
-    × IsBetween 1 most_deltas deltas × IsBetween 1 most_statements statements
-IsWithinLimits (Plain stop deltas statements) =
-    StopsInTime stop × IsBetween 1 most_deltas deltas × IsBetween 1 most_statements statements
+IsWithinLimits (Run options workers) = AreWithinLimits options × IsBetween 1 most_workers workers
+IsWithinLimits (Plain options) = AreWithinLimits options
 IsWithinLimits Check = Unit {0}
 IsWithinLimits Tables = Unit {0}
 IsWithinLimits (Bench stages items seed workers) =

@@ -10,6 +10,7 @@ use Rattle.ooo_words.specs.declared.options.OptionName.{OptionName}
 use Rattle.ooo_words.specs.declared.options.OptionName.TheVariants.{Stop, Workers, Deltas, Statements}
 use Rattle.ooo_words.specs.declared.options.OptionName.TheVariants.{Stages, Items, Seed}
 use Rattle.ooo_words.specs.declared.command.Command.{Command}
+use Rattle.ooo_words.specs.declared.command.RunOptions.{RunOptions}
 use Rattle.ooo_words.specs.declared.command.Command.TheVariants.{Run, Plain, Check, Tables, Bench}
 use Rattle.ooo_words.specs.declared.refused.WordsBreach.{WordsBreach}
 use Rattle.ooo_words.specs.declared.refused.WordsBreach.TheVariants.{NoCommand, UnknownCommand}
@@ -101,14 +102,18 @@ number_or default settings option =
 abbrev pub stop_time : List Setting → Option Time
 stop_time settings = option_and_then time_of (given settings Stop)
 
+-- what settings without a breach ask of a run
+abbrev pub run_options : List Setting → RunOptions
+run_options settings = record {
+  stop = stop_time settings;
+  deltas = number_or default_deltas settings Deltas;
+  statements = number_or default_statements settings Statements;
+}
+
 -- the command that settings without a breach ask for
 abbrev pub command_of : CommandName → List Setting → Command
-command_of name.Run settings =
-    Run (stop_time settings) (number_or default_workers settings Workers)
-    (number_or default_deltas settings Deltas) (number_or default_statements settings Statements)
-command_of name.Plain settings =
-    Plain (stop_time settings)
-    (number_or default_deltas settings Deltas) (number_or default_statements settings Statements)
+command_of name.Run settings = Run (run_options settings) (number_or default_workers settings Workers)
+command_of name.Plain settings = Plain (run_options settings)
 command_of name.Check settings = Check
 command_of name.Tables settings = Tables
 command_of name.Bench settings =

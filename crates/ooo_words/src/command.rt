@@ -1,22 +1,26 @@
 use ooo_time::Time;
 
+/// What is asked of a run.
+#[derive(Clone, Copy, PartialEq, Eq, Debug)]
+pub struct RunOptions {
+    /// The stop time in place of the one that the text gives to sc_start, if one is given.
+    pub stop: Option<Time>,
+    /// How many delta cycles there may be at one time.
+    pub deltas: u32,
+    /// How many statements an activation may run.
+    pub statements: u32,
+}
+
 /// What the words ask for.
 #[derive(Clone, Copy, PartialEq, Eq, Debug)]
 pub enum Command {
-    /// The report of a run by workers, with at most `deltas` delta cycles at one time and at most `statements`
-    /// statements in one activation; `stop` takes the place of the time that the text gives to sc_start.
+    /// The report of a run by this many workers.
     Run {
-        stop: Option<Time>,
+        options: RunOptions,
         workers: u32,
-        deltas: u32,
-        statements: u32,
     },
     /// The report of a run by the sequential scheduler.
-    Plain {
-        stop: Option<Time>,
-        deltas: u32,
-        statements: u32,
-    },
+    Plain(RunOptions),
     /// Whether the text is accepted.
     Check,
     /// The tables of the text's segments.

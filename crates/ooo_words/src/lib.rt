@@ -15,6 +15,6 @@ mod reader;
 mod refused;
 mod setting;
 
-pub use command::Command;
+pub use command::{Command, RunOptions};
 pub use reader::read;
 pub use refused::{WordsBreach, WordsError, refusal};

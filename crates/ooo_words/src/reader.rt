@@ -3,11 +3,11 @@ ghost use Rattle.std.specs.String.{string_bytes};
 ghost use Rattle.ooo_words.specs.Limits.{IsWithinLimits};
 ghost use Rattle.ooo_words.specs.Numbers.{number_of, time_of};
 ghost use Rattle.ooo_words.specs.Parser.{HasValuesOf, value_found};
-ghost use Rattle.ooo_words.specs.Reading.{Setting, command_of, reading};
+ghost use Rattle.ooo_words.specs.Reading.{Setting, command_of, reading, run_options};
 ghost use Rattle.ooo_words.specs.declared.options.OptionName.TheVariants.{Stop};
 
 use crate::breach::check_settings;
-use crate::command::Command;
+use crate::command::{Command, RunOptions};
 use crate::matches::matches;
 use crate::numbers::time;
 use crate::options::{CommandName, OptionName};
@@ -65,16 +65,10 @@ fn command_given(command: CommandName, matches: &ArgMatches<'_>) -> Command
 {
     match command {
         CommandName::Run => Command::Run {
-            stop: stop_time(matches),
+            options: run_options(matches),
             workers: number_or(matches, OptionName::Workers, DEFAULT_WORKERS),
-            deltas: number_or(matches, OptionName::Deltas, DEFAULT_DELTAS),
-            statements: number_or(matches, OptionName::Statements, DEFAULT_STATEMENTS),
         },
-        CommandName::Plain => Command::Plain {
-            stop: stop_time(matches),
-            deltas: number_or(matches, OptionName::Deltas, DEFAULT_DELTAS),
-            statements: number_or(matches, OptionName::Statements, DEFAULT_STATEMENTS),
-        },
+        CommandName::Plain => Command::Plain(run_options(matches)),
         CommandName::Check => Command::Check,
         CommandName::Tables => Command::Tables,
         CommandName::Bench => Command::Bench {
@@ -83,6 +77,18 @@ fn command_given(command: CommandName, matches: &ArgMatches<'_>) -> Command
             seed: number_or(matches, OptionName::Seed, DEFAULT_SEED),
             workers: number_or(matches, OptionName::Workers, DEFAULT_WORKERS),
         },
+    }
+}
+
+/// What was found of the options of a run.
+fn run_options(matches: &ArgMatches<'_>) -> RunOptions
+    ensures { (settings : List Setting) → HasValuesOf settings matches.now
+        → result ≡ run_options settings }
+{
+    RunOptions {
+        stop: stop_time(matches),
+        deltas: number_or(matches, OptionName::Deltas, DEFAULT_DELTAS),
+        statements: number_or(matches, OptionName::Statements, DEFAULT_STATEMENTS),
     }
 }
 
