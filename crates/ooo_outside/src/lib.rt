@@ -13,6 +13,6 @@ mod memory;
 mod traits;
 
 pub use adapters::{ReadSource, WriteSink};
-pub use gate::{Gate, OpenGate};
+pub use gate::{Gate, MeetGate, OpenGate};
 pub use memory::{MemorySink, MemorySource};
 pub use traits::{Failed, Sink, Source};

@@ -1,0 +1,5 @@
+use Rattle.ooo_workers.specs.Passes.{Rested}
+use Rattle.ooo_workers.proofs.yard.Yard.take.Given as goal
+
+abbrev pub invariant-loop : goal.invariant-loop
+invariant-loop g l = Rested l.initial.pass l.pass
