@@ -1,7 +1,7 @@
 ghost use Rattle.std.specs.Prelude.{◌≤◌};
 
 use ooo_outside::{MemorySink, MemorySource};
-use ooo_sim::{Status, alone};
+use ooo_sim::alone;
 use std::alloc::{AllocError, Global};
 use std::test::Fail;
 
@@ -41,20 +41,21 @@ const PLENTY: Feed = Feed {
     failing_write: 0,
 };
 
+// How a call ended, by its number, and what its sink holds.
 #[derive(Drop)]
-struct Outcome {
-    status: Option<Status>,
+struct Called {
+    status: Option<u8>,
     held: Vec<u8>,
 }
 
-impl Outcome {
-    fn is(&self, status: Status, held: &[u8]) -> bool {
+impl Called {
+    fn is(&self, status: u8, held: &[u8]) -> bool {
         self.status == Some(status) && self.held.as_slice() == held
     }
 }
 
 // Calls `alone` with one word on a source and a sink in memory.
-fn call(alloc: Global, word: &str, text: Vec<u8>, feed: Feed) -> Result<Outcome, AllocError>
+fn call(alloc: Global, word: &str, text: Vec<u8>, feed: Feed) -> Result<Called, AllocError>
     requires read { 1 ≤ feed.most_read }
     requires written { 1 ≤ feed.most_written }
 {
@@ -66,9 +67,9 @@ fn call(alloc: Global, word: &str, text: Vec<u8>, feed: Feed) -> Result<Outcome,
         feed.most_written,
         vec![in alloc; feed.failing_write]?,
     )?;
-    let status = alone(alloc, &words, &mut source, &mut sink);
-    Ok(Outcome {
-        status,
+    let outcome = alone(alloc, &words, &mut source, &mut sink);
+    Ok(Called {
+        status: outcome.map(|outcome| outcome.number()),
         held: Vec::from_slice(alloc, sink.held())?,
     })
 }
@@ -85,7 +86,7 @@ fn a_byte_at_a_time_gives_the_report(rt: HostRuntime) -> Result<(), Fail> {
         ..PLENTY
     };
     let outcome = call(rt.alloc(), "plain", model(rt.alloc())?, feed)?;
-    assert!(rt; outcome.is(Status::Done, REPORT));
+    assert!(rt; outcome.is(0, REPORT));
     Ok(())
 }
 
@@ -99,10 +100,7 @@ fn each_failing_read_gives_status_4_and_writes_nothing(rt: HostRuntime) -> Resul
             ..PLENTY
         };
         let outcome = call(rt.alloc(), "plain", model(rt.alloc())?, feed)?;
-        assert!(rt;
-            outcome.is(Status::SourceFailed, b""),
-            "read {failing_read}"
-        );
+        assert!(rt; outcome.is(4, b""), "read {failing_read}");
     }
     let feed = Feed {
         most_read: 16,
@@ -110,7 +108,7 @@ fn each_failing_read_gives_status_4_and_writes_nothing(rt: HostRuntime) -> Resul
         ..PLENTY
     };
     let outcome = call(rt.alloc(), "plain", model(rt.alloc())?, feed)?;
-    assert!(rt; outcome.is(Status::Done, REPORT));
+    assert!(rt; outcome.is(0, REPORT));
     Ok(())
 }
 
@@ -125,7 +123,7 @@ fn each_failing_write_gives_status_5_after_a_prefix(rt: HostRuntime) -> Result<(
         };
         let outcome = call(rt.alloc(), "plain", model(rt.alloc())?, feed)?;
         assert!(rt;
-            outcome.is(Status::SinkFailed, &REPORT[..4 * failing_write - 4]),
+            outcome.is(5, &REPORT[..4 * failing_write - 4]),
             "write {failing_write}"
         );
     }
@@ -135,7 +133,7 @@ fn each_failing_write_gives_status_5_after_a_prefix(rt: HostRuntime) -> Result<(
         ..PLENTY
     };
     let outcome = call(rt.alloc(), "plain", model(rt.alloc())?, feed)?;
-    assert!(rt; outcome.is(Status::Done, REPORT));
+    assert!(rt; outcome.is(0, REPORT));
     Ok(())
 }
 
@@ -143,7 +141,7 @@ fn each_failing_write_gives_status_5_after_a_prefix(rt: HostRuntime) -> Result<(
 fn a_sink_without_room_gives_status_5_after_a_prefix(rt: HostRuntime) -> Result<(), Fail> {
     let feed = Feed { room: 10, ..PLENTY };
     let outcome = call(rt.alloc(), "plain", model(rt.alloc())?, feed)?;
-    assert!(rt; outcome.is(Status::SinkFailed, b"a\nb\n10 ns\n"));
+    assert!(rt; outcome.is(5, b"a\nb\n10 ns\n"));
     Ok(())
 }
 
@@ -152,10 +150,10 @@ fn a_source_may_have_1048576_bytes(rt: HostRuntime) -> Result<(), Fail> {
     let alloc = rt.alloc();
     let blanks = vec![in alloc; b' '; 1_048_576]?;
     let outcome = call(alloc, "plain", blanks, PLENTY)?;
-    assert!(rt; outcome.is(Status::TextRefused, NO_TEXT));
+    assert!(rt; outcome.is(3, NO_TEXT));
     let blanks = vec![in alloc; b' '; 1_048_577]?;
     let outcome = call(alloc, "plain", blanks, PLENTY)?;
-    assert!(rt; outcome.is(Status::SourceTooLong, b"refused source TooLong\n"));
+    assert!(rt; outcome.is(8, b"refused source TooLong\n"));
     Ok(())
 }
 
@@ -163,25 +161,35 @@ fn a_source_may_have_1048576_bytes(rt: HostRuntime) -> Result<(), Fail> {
 #[test]
 fn check_and_tables_answer(rt: HostRuntime) -> Result<(), Fail> {
     let outcome = call(rt.alloc(), "check", model(rt.alloc())?, PLENTY)?;
-    assert!(rt; outcome.is(Status::Done, b"accepted processes 2 segments 3\n"));
+    assert!(rt; outcome.is(0, b"accepted processes 2 segments 3\n"));
     let outcome = call(rt.alloc(), "tables", model(rt.alloc())?, PLENTY)?;
     let tables = b"segment 0 m.a start\nsegment 1 m.a 3\nsegment 2 m.b start\n\
         least 0 0 0 s 0\nleast 0 1 10 ns 0\nleast 1 1 0 s 0\nleast 2 2 0 s 0\n";
-    assert!(rt; outcome.is(Status::Done, tables));
+    assert!(rt; outcome.is(0, tables));
     Ok(())
 }
 
 #[test]
 fn other_words_are_refused(rt: HostRuntime) -> Result<(), Fail> {
-    let rows: [(&str, &[u8]); 4] = [
-        ("run", b"refused words NotBuilt\n"),
+    let rows: [(&str, &[u8]); 3] = [
         ("", b"refused words UnknownCommand \n"),
         ("Plain", b"refused words UnknownCommand Plain\n"),
         ("plain ", b"refused words UnknownCommand plain \n"),
     ];
     for (word, line) in rows {
         let outcome = call(rt.alloc(), word, model(rt.alloc())?, PLENTY)?;
-        assert!(rt; outcome.is(Status::WordsRefused, line), "{word}");
+        assert!(rt; outcome.is(2, line), "{word}");
+    }
+    Ok(())
+}
+
+// What takes workers isn't done alone, and nothing is read or written.
+#[test]
+fn workers_are_left_to_simulate(rt: HostRuntime) -> Result<(), Fail> {
+    for word in ["run", "bench"] {
+        let called = call(rt.alloc(), word, model(rt.alloc())?, PLENTY)?;
+        assert!(rt; called.status.is_none());
+        assert!(rt; called.held.as_slice() == b"".as_slice());
     }
     Ok(())
 }

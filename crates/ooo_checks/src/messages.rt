@@ -1,11 +1,11 @@
 use ooo_checked::TypeBreach;
-use ooo_lexer::LexBreach;
+use ooo_lexer::{LexBreach, Position};
 use ooo_messages::{
-    code_reason, elab_breach, elab_reason, explain, explain_ending, explain_stop, lexer_breach,
-    lexer_reason, parser_breach, parser_reason, segments_reason, stop_reason, types_breach,
-    types_reason, words_reason,
+    Breach, TextRefusal, code_reason, elab_reason, explain, explain_ending, explain_stop,
+    lexer_reason, parser_reason, segments_reason, stop_reason, types_reason, words_reason,
 };
 use ooo_syntax::ParseBreach;
+use ooo_value::Name;
 use ooo_walk::ElabBreach;
 use ooo_words::WordsBreach;
 use std::alloc::AllocError;
@@ -30,26 +30,18 @@ fn says_what_is_wrong(rt: HostRuntime) {
         "its processes have more than 1024 segments: one from each start, and one from each wait on"
     );
     assert_eq!(rt; lexer_reason(LexBreach::BadNumber), "this is no number");
-    assert_eq!(rt; lexer_breach("BadNumber"), Some(LexBreach::BadNumber));
-    assert_eq!(rt; lexer_breach("Bad"), None);
     assert_eq!(rt;
         parser_reason(ParseBreach::Syntax),
         "the grammar doesn't go on with this"
     );
-    assert_eq!(rt; parser_breach("TooDeep"), Some(ParseBreach::TooDeep));
-    assert_eq!(rt; parser_breach("BadNumber"), None);
     assert_eq!(rt;
         types_reason(TypeBreach::UnknownName),
         "nothing of this name is known here"
     );
-    assert_eq!(rt; types_breach("NotAPort"), Some(TypeBreach::NotAPort));
-    assert_eq!(rt; types_breach("Syntax"), None);
     assert_eq!(rt;
         elab_reason(ElabBreach::TwoWriters),
         "two processes write to this"
     );
-    assert_eq!(rt; elab_breach("FifoSize"), Some(ElabBreach::FifoSize));
-    assert_eq!(rt; elab_breach("NotAPort"), None);
 }
 
 fn is_said(said: Result<Option<String>, AllocError>, wanted: &str) -> Result<bool, AllocError> {
@@ -60,13 +52,20 @@ fn is_said(said: Result<Option<String>, AllocError>, wanted: &str) -> Result<boo
 #[test]
 fn the_mark_stands_under_the_token(rt: HostRuntime) -> Result<(), Fail> {
     let text = b"SC_MODULE(M) {\n\t/* \xc3\xa4 */ double x;\r\n};\n";
-    let said = explain(rt.alloc(), text, "refused parser NotInProfile 2:11\n");
+    let refusal = TextRefusal::new(
+        Breach::Parser(ParseBreach::NotInProfile),
+        Position {
+            line: 2,
+            column: 11,
+        },
+    );
+    let said = explain(rt.alloc(), text, &refusal)?;
     let wanted =
         "<stdin>:2:11: error: found 'double': C++ or SystemC has this here, but the simulator doesn't take it\n\
         \t/* ?? */ double x;\n\
         \t         ^\n\
         note: there are no fractions: use whole numbers of a smaller unit\n";
-    assert!(rt; is_said(said, wanted)?);
+    assert_eq!(rt; said.as_str(), wanted);
     Ok(())
 }
 
@@ -74,12 +73,38 @@ fn the_mark_stands_under_the_token(rt: HostRuntime) -> Result<(), Fail> {
 fn a_long_line_is_cut_around_the_mark(rt: HostRuntime) -> Result<(), Fail> {
     let text = b"0123456789012345678901234567890123456789012345678901234567890123456789@\
         0123456789012345678901234567890123456789";
-    let said = explain(rt.alloc(), text, "refused lexer BadByte 1:71\n");
+    let refusal = TextRefusal::new(
+        Breach::Lexer(LexBreach::BadByte),
+        Position {
+            line: 1,
+            column: 71,
+        },
+    );
+    let said = explain(rt.alloc(), text, &refusal)?;
     let wanted = "<stdin>:1:71: error: this byte begins no token and no escape\n\
         ...0123456789012345678901234567890123456789@012345678901234567890123456789012345678...\n\
         \x20                                          ^\n\
         note: take it away: it may stand in comments and texts alone\n";
-    assert!(rt; is_said(said, wanted)?);
+    assert_eq!(rt; said.as_str(), wanted);
+    Ok(())
+}
+
+// The names that elaboration is about stand before and behind what is wrong.
+#[test]
+fn names_are_told_around_the_reason(rt: HostRuntime) -> Result<(), Fail> {
+    let alloc = rt.alloc();
+    let mut names = Vec::new(alloc);
+    for name in ["t.s", "t.a.f", "t.b.f"] {
+        names.push(Name::new(alloc, name)?)?;
+    }
+    let refusal = TextRefusal {
+        breach: Breach::Elaborate(ElabBreach::TwoWriters),
+        at: Position { line: 1, column: 5 },
+        names: &names,
+    };
+    let said = explain(alloc, b"int x;\n", &refusal)?;
+    let wanted = "<stdin>:1:5: error: t.s: two processes write to this: t.a.f t.b.f\n";
+    assert!(rt; said.as_str().starts_with(wanted));
     Ok(())
 }
 

@@ -11,11 +11,11 @@ struct Case {
 static CASES: [Case; 86] = [
     Case {
         words: "run",
-        answer: "Run { stop: None, workers: 1, deltas: 10000, statements: 1000000 }",
+        answer: "Run { options: RunOptions { stop: None, deltas: 10000, statements: 1000000 }, workers: 1 }",
     },
     Case {
         words: "plain",
-        answer: "Plain { stop: None, deltas: 10000, statements: 1000000 }",
+        answer: "Plain(RunOptions { stop: None, deltas: 10000, statements: 1000000 })",
     },
     Case {
         words: "check",
@@ -127,31 +127,31 @@ static CASES: [Case; 86] = [
     },
     Case {
         words: "run|--stop|5ns",
-        answer: "Run { stop: Some(Time(5000)), workers: 1, deltas: 10000, statements: 1000000 }",
+        answer: "Run { options: RunOptions { stop: Some(Time(5000)), deltas: 10000, statements: 1000000 }, workers: 1 }",
     },
     Case {
         words: "plain|--stop=0ns",
-        answer: "Plain { stop: Some(Time(0)), deltas: 10000, statements: 1000000 }",
+        answer: "Plain(RunOptions { stop: Some(Time(0)), deltas: 10000, statements: 1000000 })",
     },
     Case {
         words: "plain|--stop|7ps",
-        answer: "Plain { stop: Some(Time(7)), deltas: 10000, statements: 1000000 }",
+        answer: "Plain(RunOptions { stop: Some(Time(7)), deltas: 10000, statements: 1000000 })",
     },
     Case {
         words: "plain|--stop|7us",
-        answer: "Plain { stop: Some(Time(7000000)), deltas: 10000, statements: 1000000 }",
+        answer: "Plain(RunOptions { stop: Some(Time(7000000)), deltas: 10000, statements: 1000000 })",
     },
     Case {
         words: "plain|--stop|7ms",
-        answer: "Plain { stop: Some(Time(7000000000)), deltas: 10000, statements: 1000000 }",
+        answer: "Plain(RunOptions { stop: Some(Time(7000000000)), deltas: 10000, statements: 1000000 })",
     },
     Case {
         words: "plain|--stop|7s",
-        answer: "Plain { stop: Some(Time(7000000000000)), deltas: 10000, statements: 1000000 }",
+        answer: "Plain(RunOptions { stop: Some(Time(7000000000000)), deltas: 10000, statements: 1000000 })",
     },
     Case {
         words: "run|--stop|4611686018427387903ps",
-        answer: "Run { stop: Some(Time(4611686018427387903)), workers: 1, deltas: 10000, statements: 1000000 }",
+        answer: "Run { options: RunOptions { stop: Some(Time(4611686018427387903)), deltas: 10000, statements: 1000000 }, workers: 1 }",
     },
     Case {
         words: "run|--stop|4611686018427387904ps",
@@ -159,7 +159,7 @@ static CASES: [Case; 86] = [
     },
     Case {
         words: "run|--stop|4611686s",
-        answer: "Run { stop: Some(Time(4611686000000000000)), workers: 1, deltas: 10000, statements: 1000000 }",
+        answer: "Run { options: RunOptions { stop: Some(Time(4611686000000000000)), deltas: 10000, statements: 1000000 }, workers: 1 }",
     },
     Case {
         words: "run|--stop|4611687s",
@@ -231,7 +231,7 @@ static CASES: [Case; 86] = [
     },
     Case {
         words: "run|--workers=64",
-        answer: "Run { stop: None, workers: 64, deltas: 10000, statements: 1000000 }",
+        answer: "Run { options: RunOptions { stop: None, deltas: 10000, statements: 1000000 }, workers: 64 }",
     },
     Case {
         words: "run|--workers|65",
@@ -259,7 +259,7 @@ static CASES: [Case; 86] = [
     },
     Case {
         words: "run|--deltas|1000000",
-        answer: "Run { stop: None, workers: 1, deltas: 1000000, statements: 1000000 }",
+        answer: "Run { options: RunOptions { stop: None, deltas: 1000000, statements: 1000000 }, workers: 1 }",
     },
     Case {
         words: "run|--deltas|1000001",
@@ -275,7 +275,7 @@ static CASES: [Case; 86] = [
     },
     Case {
         words: "plain|--statements=1000000000",
-        answer: "Plain { stop: None, deltas: 10000, statements: 1000000000 }",
+        answer: "Plain(RunOptions { stop: None, deltas: 10000, statements: 1000000000 })",
     },
     Case {
         words: "plain|--statements=1000000001",
@@ -319,7 +319,7 @@ static CASES: [Case; 86] = [
     },
     Case {
         words: "run|--statements|9|--deltas=8|--workers|7|--stop=6us",
-        answer: "Run { stop: Some(Time(6000000)), workers: 7, deltas: 8, statements: 9 }",
+        answer: "Run { options: RunOptions { stop: Some(Time(6000000)), deltas: 8, statements: 9 }, workers: 7 }",
     },
     Case {
         words: "run|--stop|5ns|--stop=6ns",

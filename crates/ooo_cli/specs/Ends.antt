@@ -1,11 +1,12 @@
--- With which status the program ends.
+-- With which number the program ends.
 use Rattle.std.specs.Prelude.{◌≡◌, ℕ, List}
 use Rattle.ooo_sim.specs.Replies.{IsReply}
-use Rattle.ooo_sim.specs.Statuses.{IsFailure}
+use Rattle.ooo_sim.specs.declared.outcome.Outcome.{Outcome}
+use Rattle.ooo_sim.specs.declared.outcome.Outcome.TheVariants.{Replied}
+use Rattle.ooo_sim.specs.declared.outcome.Verdict.{Verdict}
 use Rattle.ooo_sim.specs.declared.reply.Reply.{Reply}
-use Rattle.ooo_sim.specs.declared.status.Status.{Status}
 
--- unless the status tells of a failure, it is that of a reply to the words from some bytes
-abbrev pub IsOfReply : List (List ℕ) → Status → Type 0
-IsOfReply words status = ¬ IsFailure status
-    → (read : List ℕ) × (r : Reply) × IsReply words read r × (status ≡ r.status)
+-- an outcome that is no failure is what a reply to the words, from some bytes, comes to
+abbrev pub IsOfReply : List (List ℕ) → Outcome → Type 0
+IsOfReply words outcome = (v : Verdict) → outcome ≡ Replied v
+    → (read : List ℕ) × (r : Reply) × IsReply words read r × (v ≡ r.verdict)

@@ -2,19 +2,22 @@
 //! words on standard error.
 #![tactic(auto)]
 
-mod ends;
 mod perform;
 mod remarks;
+mod tail;
+#[cfg(test)]
+mod tests;
 mod text_read;
+#[cfg(test)]
+mod yards;
 
 ghost use Rattle.std.specs.Prelude.{◌≡◌, ◌≢◌};
 ghost use Rattle.std.specs.IoError.{error_kind};
 ghost use Rattle.std.specs.declared.io.ErrorKind.TheVariants.{InvalidData};
-ghost use Rattle.ooo_sim.specs.declared.status.Status.TheVariants.{WordsRefused, OutOfMemory};
 
 use crate::perform::perform;
-use crate::remarks::{remark_terminal, remark_unread};
-use ooo_sim::Status;
+use crate::remarks::{remark_no_memory, remark_no_utf8, remark_terminal};
+use ooo_sim::Failure;
 use std::io::IsTerminal;
 use std::process::ExitCode;
 use std::{env, io};
@@ -29,9 +32,11 @@ fn main(rt: HostRuntime) -> ExitCode {
             ExitCode::from(perform(&rt, rt.alloc(), &words, rt.stdin(), &mut rt.stdout()))
         }
         Err(error) => {
-            let status = unread(&error);
-            remark_unread(&rt, status);
-            ExitCode::from(status.number())
+            match error.kind() {
+                io::ErrorKind::InvalidData => remark_no_utf8(&rt),
+                _ => remark_no_memory(&rt),
+            }
+            ExitCode::from(unread(&error))
         }
     }
 }
@@ -45,13 +50,13 @@ fn words(rt: &HostRuntime) -> io::Result<Vec<String>> {
     Ok(words)
 }
 
-/// The status where the words can't be had: one is no UTF-8, or memory ran out.
-fn unread(error: &io::Error) -> Status
-    ensures words { error_kind error.now ≡ InvalidData → result ≡ WordsRefused }
-    ensures memory { error_kind error.now ≢ InvalidData → result ≡ OutOfMemory }
+/// The number to end with where the words can't be had: one is no UTF-8, which refuses them, or memory ran out.
+fn unread(error: &io::Error) -> u8
+    ensures words { error_kind error.now ≡ InvalidData → result ≡ 2 }
+    ensures memory { error_kind error.now ≢ InvalidData → result ≡ 6 }
 {
     match error.kind() {
-        io::ErrorKind::InvalidData => Status::WordsRefused,
-        _ => Status::OutOfMemory,
+        io::ErrorKind::InvalidData => 2,
+        _ => Failure::OutOfMemory.number(),
     }
 }

@@ -1,11 +1,11 @@
 ghost use Rattle.std.specs.Prelude.{◌≡◌};
 ghost use Rattle.ooo_cli.specs.Ends.{IsOfReply};
+ghost use Rattle.ooo_sim.specs.Outcomes.{number_of};
 ghost use Rattle.ooo_sim.specs.Requests.{words_of};
-ghost use Rattle.ooo_sim.specs.Statuses.{number_of};
-ghost use Rattle.ooo_sim.specs.declared.status.Status.{Status};
+ghost use Rattle.ooo_sim.specs.declared.outcome.Outcome.{Outcome};
 
-use crate::ends::Ends;
 use crate::remarks::{Seen, remark};
+use crate::tail::Tail;
 use crate::text_read::TextRead;
 use ooo_outside::{OpenGate, ReadSource, WriteSink};
 use ooo_sim::simulate;
@@ -23,20 +23,19 @@ pub fn perform<I: Read + Drop, O: Write>(
     input: I,
     output: &mut O,
 ) -> u8
-    // The number is that of a status, and unless this tells of a failure it is the status of a reply to the words.
-    ensures { (status : Status)
-        × (result ≡ number_of status) × IsOfReply (words_of words.now) status }
+    // The number is that of an outcome, and unless this is a failure it is that of a reply to the words.
+    ensures { (outcome : Outcome)
+        × (result ≡ number_of outcome) × IsOfReply (words_of words.now) outcome }
 {
     let mut text = TextRead::new(alloc, input);
-    let mut ends = Ends::new(output);
+    let mut tail = Tail::new(output);
     let mut source = ReadSource::new(&mut text);
-    let mut sink = WriteSink::new(&mut ends);
-    let status = simulate(rt, alloc, words, &mut source, &mut sink, &OpenGate);
+    let mut sink = WriteSink::new(&mut tail);
+    let (outcome, _board) = simulate(rt, alloc, words, &mut source, &mut sink, &OpenGate);
     let seen = Seen {
         source: text.kept(),
-        first: ends.first(),
-        last: ends.last(),
+        last: tail.last(),
     };
-    remark(rt, alloc, status, words, &seen);
-    status.number()
+    remark(rt, alloc, &outcome, &seen);
+    outcome.number()
 }

@@ -1,3 +1,2 @@
 pub mod Reasons
-pub mod Laws
 pub mod Breaches

@@ -1,16 +1,11 @@
 -- What is wrong, in words.
-use Rattle.std.specs.Prelude.{ℕ, List, [], ◌∷◌, Option, codes, find}
-use Rattle.std.specs.Str.{bytes_eq}
-use Rattle.ooo_lexer.specs.Breaches.{name_of}
+use Rattle.std.specs.Prelude.{ℕ, List, codes}
 use Rattle.ooo_lexer.specs.declared.breach.LexBreach.{LexBreach}
 use Rattle.ooo_lexer.specs.declared.breach.LexBreach.TheVariants as lexer
-use Rattle.ooo_syntax.specs.Breaches.{name_of as parser_name_of}
 use Rattle.ooo_syntax.specs.declared.error.ParseBreach.{ParseBreach}
 use Rattle.ooo_syntax.specs.declared.error.ParseBreach.TheVariants as parser
-use Rattle.ooo_checked.specs.Breaches.{name_of as type_name_of}
 use Rattle.ooo_checked.specs.declared.breach.TypeBreach.{TypeBreach}
 use Rattle.ooo_checked.specs.declared.breach.TypeBreach.TheVariants as types
-use Rattle.ooo_walk.specs.Breaches.{name_of as elab_name_of}
 use Rattle.ooo_walk.specs.declared.refusal.ElabBreach.{ElabBreach}
 use Rattle.ooo_walk.specs.declared.refusal.ElabBreach.TheVariants as elab
 use Rattle.ooo_words.specs.declared.refused.WordsBreach.{WordsBreach}
@@ -79,39 +74,3 @@ elab_reason elab.FifoSize = codes "a fifo holds 1 to 65536 values"
 elab_reason elab.TimeTooLarge = codes "this time is too great"
 elab_reason elab.OddClock = codes "a clock's period has to be a positive even number of picoseconds"
 elab_reason elab.BadConstant = codes "this has no value, or none that may stand here"
-
--- all that may be wrong with a text that can't be cut
-abbrev pub lexer_breaches : List LexBreach
-lexer_breaches = lexer.BadByte ∷ lexer.NumberTooWide ∷ lexer.TextNotClosed ∷ lexer.CommentNotClosed
-    ∷ lexer.Directive ∷ lexer.BadNumber ∷ []
-
--- the breach of the lexer of this name
-abbrev pub breach_named : List ℕ → Option LexBreach
-breach_named name = find (λ breach. bytes_eq name (name_of breach)) lexer_breaches
-
--- all that the grammar may refuse a text as
-abbrev pub parser_breaches : List ParseBreach
-parser_breaches = parser.Syntax ∷ parser.TooDeep ∷ parser.NotInProfile ∷ []
-
--- the breach of the parser of this name
-abbrev pub parse_breach_named : List ℕ → Option ParseBreach
-parse_breach_named name = find (λ breach. bytes_eq name (parser_name_of breach)) parser_breaches
-
--- all that may be wrong with names and types
-abbrev pub type_breaches : List TypeBreach
-type_breaches = types.UnknownName ∷ types.DeclaredTwice ∷ types.WrongKind ∷ types.WaitInMethod ∷ types.WaitInFunction
-    ∷ types.RecursiveCall ∷ types.NotAPort ∷ types.WrongCount ∷ types.EffectInside ∷ types.NotConstant ∷ []
-
--- the breach of names and types of this name
-abbrev pub type_breach_named : List ℕ → Option TypeBreach
-type_breach_named name = find (λ breach. bytes_eq name (type_name_of breach)) type_breaches
-
--- all that a text may not be elaborated for
-abbrev pub elab_breaches : List ElabBreach
-elab_breaches = elab.PortNotBound ∷ elab.PortBoundTwice ∷ elab.PortKind ∷ elab.TwoWriters ∷ elab.TwoReaders
-    ∷ elab.TooManyProcesses ∷ elab.TooManyObjects ∷ elab.TooManyCells ∷ elab.FifoSize ∷ elab.TimeTooLarge ∷ elab.OddClock
-    ∷ elab.BadConstant ∷ []
-
--- the breach of elaboration of this name
-abbrev pub elab_breach_named : List ℕ → Option ElabBreach
-elab_breach_named name = find (λ breach. bytes_eq name (elab_name_of breach)) elab_breaches

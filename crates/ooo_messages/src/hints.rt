@@ -2,7 +2,7 @@ use crate::declared::declared_in;
 use crate::excerpt::named;
 use crate::lexer_hints::lexer_hint;
 use crate::message::Message;
-use crate::refusal::{Breach, Refusal};
+use crate::refusal::{Breach, TextRefusal};
 use crate::shape::hint_of;
 use crate::shapes::{ANYWHERE, elaborate_shapes, expected_shapes, parser_shapes, type_shapes};
 use crate::site::Site;
@@ -17,7 +17,7 @@ use std::alloc::{AllocError, Global};
 pub fn add_hints(
     alloc: Global,
     message: &mut Message<'_>,
-    refusal: &Refusal<'_>,
+    refusal: &TextRefusal<'_>,
     site: &Site<'_>,
 ) -> Result<(), AllocError> {
     match refusal.breach {

@@ -9,7 +9,6 @@ mod endings;
 mod excerpt;
 mod explanation;
 mod hints;
-pub mod law;
 mod lexer_hints;
 mod message;
 mod reasons;
@@ -22,6 +21,7 @@ mod spelling;
 pub use endings::explain_ending;
 pub use explanation::{explain, explain_stop};
 pub use reasons::{
-    code_reason, elab_breach, elab_reason, lexer_breach, lexer_reason, parser_breach,
-    parser_reason, segments_reason, stop_reason, types_breach, types_reason, words_reason,
+    code_reason, elab_reason, lexer_reason, parser_reason, segments_reason, stop_reason,
+    types_reason, words_reason,
 };
+pub use refusal::{Breach, TextRefusal};

@@ -1,6 +1,6 @@
 ghost use Rattle.std.specs.Prelude.{◌≡◌};
-ghost use Rattle.ooo_messages.specs.Reasons.{breach_named, lexer_reason, parse_breach_named, parser_reason, type_breach_named};
-ghost use Rattle.ooo_messages.specs.Reasons.{code_reason, elab_breach_named, elab_reason, segments_reason, stop_reason, types_reason, words_reason};
+ghost use Rattle.ooo_messages.specs.Reasons.{code_reason, elab_reason, lexer_reason, parser_reason};
+ghost use Rattle.ooo_messages.specs.Reasons.{segments_reason, stop_reason, types_reason, words_reason};
 
 use ooo_checked::TypeBreach;
 use ooo_lexer::LexBreach;
@@ -109,86 +109,3 @@ pub fn segments_reason() -> &'static str
 {
     "its processes have more than 1024 segments: one from each start, and one from each wait on"
 }
-
-/// The breach of elaboration that has this name.
-pub fn elab_breach(name: &str) -> Option<ElabBreach>
-    ensures { result ≡ elab_breach_named name.now }
-{
-    ELAB_BREACHES
-        .iter()
-        .copied()
-        .find(|known| name == known.name())
-}
-
-/// The breach of names and types that has this name.
-pub fn types_breach(name: &str) -> Option<TypeBreach>
-    ensures { result ≡ type_breach_named name.now }
-{
-    TYPE_BREACHES
-        .iter()
-        .copied()
-        .find(|known| name == known.name())
-}
-
-/// The parser's breach that has this name.
-pub fn parser_breach(name: &str) -> Option<ParseBreach>
-    ensures { result ≡ parse_breach_named name.now }
-{
-    PARSER_BREACHES
-        .iter()
-        .copied()
-        .find(|known| name == known.name())
-}
-
-/// The lexer's breach that has this name.
-pub fn lexer_breach(name: &str) -> Option<LexBreach>
-    ensures { result ≡ breach_named name.now }
-{
-    LEXER_BREACHES
-        .iter()
-        .copied()
-        .find(|breach| name == breach.name())
-}
-
-static LEXER_BREACHES: [LexBreach; 6] = [
-    LexBreach::BadByte,
-    LexBreach::NumberTooWide,
-    LexBreach::TextNotClosed,
-    LexBreach::CommentNotClosed,
-    LexBreach::Directive,
-    LexBreach::BadNumber,
-];
-
-static PARSER_BREACHES: [ParseBreach; 3] = [
-    ParseBreach::Syntax,
-    ParseBreach::TooDeep,
-    ParseBreach::NotInProfile,
-];
-
-static TYPE_BREACHES: [TypeBreach; 10] = [
-    TypeBreach::UnknownName,
-    TypeBreach::DeclaredTwice,
-    TypeBreach::WrongKind,
-    TypeBreach::WaitInMethod,
-    TypeBreach::WaitInFunction,
-    TypeBreach::RecursiveCall,
-    TypeBreach::NotAPort,
-    TypeBreach::WrongCount,
-    TypeBreach::EffectInside,
-    TypeBreach::NotConstant,
-];
-
-static ELAB_BREACHES: [ElabBreach; 12] = [
-    ElabBreach::PortNotBound,
-    ElabBreach::PortBoundTwice,
-    ElabBreach::PortKind,
-    ElabBreach::TwoWriters,
-    ElabBreach::TwoReaders,
-    ElabBreach::TooManyProcesses,
-    ElabBreach::TooManyObjects,
-    ElabBreach::TooManyCells,
-    ElabBreach::FifoSize,
-    ElabBreach::TimeTooLarge,
-    ElabBreach::OddClock,
-    ElabBreach::BadConstant,
-];

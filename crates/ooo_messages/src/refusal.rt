@@ -1,13 +1,11 @@
 ghost use Rattle.std.specs.Prelude.{◌≡◌};
 ghost use Rattle.ooo_messages.specs.Breaches.{reason_of};
 
-use crate::reasons::{
-    elab_breach, elab_reason, lexer_breach, lexer_reason, parser_breach, parser_reason,
-    types_breach, types_reason,
-};
+use crate::reasons::{elab_reason, lexer_reason, parser_reason, types_reason};
 use ooo_checked::TypeBreach;
 use ooo_lexer::{LexBreach, Position};
 use ooo_syntax::ParseBreach;
+use ooo_value::Name;
 use ooo_walk::ElabBreach;
 
 /// What a layer says of a text that it refuses.
@@ -24,17 +22,6 @@ pub enum Breach {
 }
 
 impl Breach {
-    /// The breach of this layer and name.
-    fn of(layer: &str, name: &str) -> Option<Breach> {
-        match layer {
-            "lexer" => Some(Breach::Lexer(lexer_breach(name)?)),
-            "parser" => Some(Breach::Parser(parser_breach(name)?)),
-            "types" => Some(Breach::Types(types_breach(name)?)),
-            "elaborate" => Some(Breach::Elaborate(elab_breach(name)?)),
-            _ => None,
-        }
-    }
-
     /// What it says.
     pub fn reason(self) -> &'static str
         ensures { result.now ≡ reason_of self }
@@ -48,35 +35,24 @@ impl Breach {
     }
 }
 
-/// What the line that refuses a text says.
+/// What is refused of a text, at a place.
 #[derive(Clone, Copy)]
-pub struct Refusal<'a> {
+pub struct TextRefusal<'a> {
     /// What is wrong.
     pub breach: Breach,
     /// Where.
     pub at: Position,
-    /// The full names that it is about, with a space between each two.
-    pub names: &'a str,
+    /// The full names that it is about: elaboration has one at least, the other layers none.
+    pub names: &'a [Name],
 }
 
-/// Reads the line that refuses a text at a place: `refused LAYER NAME LINE:COLUMN`, where elaboration refuses with the
-/// names behind it that it is about.
-pub fn read_refusal(line: &str) -> Option<Refusal<'_>> {
-    let (layer, named) = line.strip_prefix("refused ")?.split_once(' ')?;
-    let (name, place) = named.split_once(' ')?;
-    refusal_at(Breach::of(layer, name)?, place.strip_suffix("\n")?)
-}
-
-// What is refused for a breach, by what stands behind its name: the place, and the names that it is about.
-fn refusal_at(breach: Breach, place: &str) -> Option<Refusal<'_>> {
-    let (line, behind) = place.split_once(':')?;
-    let (column, names) = behind.split_once(' ').unwrap_or((behind, ""));
-    Some(Refusal {
-        breach,
-        at: Position {
-            line: line.parse().ok()?,
-            column: column.parse().ok()?,
-        },
-        names,
-    })
+impl<'a> TextRefusal<'a> {
+    /// What is refused at a place and is about no names.
+    pub fn new(breach: Breach, at: Position) -> TextRefusal<'a> {
+        TextRefusal {
+            breach,
+            at,
+            names: &[],
+        }
+    }
 }

@@ -1,4 +1,7 @@
 pub mod Bytes
-pub mod Writing
+pub mod Requests
 pub mod Reports
+pub mod Summaries
 pub mod Answers
+pub mod Boards
+pub mod Writing

@@ -1,5 +1,5 @@
 -- The report of a run of a model, by its statements and by its nodes.
-use Rattle.std.proofs.Common.{◌≡◌, ◌∙◌, ℕ, ◌+◌, ◌≤◌, List, [], ◌∷◌, length, Option, Some, None, refl, sym, ap, subst, arith, suc}
+use Rattle.std.proofs.Common.{◌≡◌, ◌∙◌, ℕ, ◌+◌, ◌≤◌, List, [], ◌∷◌, length, Option, Some, None, refl, sym, ap, subst, arith, suc, true}
 use Rattle.std.specs.Prelude.{IfOk, IfSome, OnOk, Result as Answer, Ok, Err}
 use Rattle.ooo_time.specs.declared.time.Time.{Time}
 use Rattle.ooo_time.specs.Scales.{greatest_time}
@@ -22,10 +22,15 @@ use Rattle.ooo_front.specs.declared.answer.Accepted.{Accepted}
 use Rattle.ooo_meaning.specs.Endings.{EndingsAreNamed, RunsHaveHistories}
 use Rattle.ooo_plain.specs.Running.{ShowsRun}
 use Rattle.ooo_sim.specs.declared.reply.Reply.{Reply}
-use Rattle.ooo_sim.specs.declared.status.Status.{Status}
+use Rattle.ooo_sim.specs.declared.outcome.Verdict.{Verdict}
+use Rattle.ooo_sim.specs.declared.outcome.Verdict.TheVariants as verdict
+use Rattle.ooo_sim.specs.declared.outcome.Refusal.{Refusal}
 use Rattle.ooo_sim.specs.Laws.{IsReady}
-use Rattle.ooo_sim.specs.Replies.{Reports, reply, report_of, status_of}
-use Rattle.ooo_sim.specs.Statuses.{IsFailure}
+use Rattle.ooo_sim.specs.Outcomes.{is_granted}
+use Rattle.ooo_sim.specs.declared.request.Told.{Told}
+use Rattle.ooo_sim.specs.declared.request.Told.TheVariants as tell
+use Rattle.ooo_sim.specs.Replies.{TellsRun, reply, report_of, told_of, told_text, verdict_of}
+use Rattle.ooo_sim.specs.Summaries.{summary_of, summary_text}
 
 -- what the statements of a sound model do, its nodes do
 abbrev pub AreSame : Type 0
@@ -46,6 +51,14 @@ by_statements same b limits r sound run =
 -- the report of a run that shows what a sequential run gives
 report_shown : (run : Run) (r : Result) (names : Names) → Shows run r → report_text run names ≡ report_of names r
 report_shown run r names shows = rw (shows.output, shows.histories, shows.ending) refl
+
+-- and its summary
+summary_shown : (run : Run) (r : Result) (names : Names) → Shows run r → summary_text run names ≡ summary_of names r
+summary_shown run r names shows = rw (shows.output, shows.histories, shows.ending, shows.activations) refl
+
+told_shown : (told : Told) (run : Run) (r : Result) (names : Names) → Shows run r → told_text told run names ≡ told_of told names r
+told_shown tell.Report run r names shows = report_shown run r names shows
+told_shown tell.Summary run r names shows = summary_shown run r names shows
 
 -- the nodes of a model have its processes
 processes_length : (b : Bound) (first : ℕ) (ps : List BoundProcess) → length (processes_from b first ps) ≡ length ps
@@ -74,23 +87,29 @@ module _ (same : AreSame) (all : RunsHaveHistories) (ends : EndingsAreNamed) (b 
       subst (λ (e : End). IsNamed e b.names.processes) (sym shown.shows.ending)
       (ends (design_of b) limits shown.result b.names.processes shown.is (names ∙ sym (processes_length b 0 b.processes)))
 
-  -- and is that of the model's run
-  pub reports : IsSound b → (text : List ℕ) (status : Status) → text ≡ report_text run b.names → status ≡ status_of run.end →
-      Reports b limits (reply status text)
-  reports sound text status is of = record {
+  -- and what is told of it is told of the model's run
+  pub tells : IsSound b → (told : Told) (text : List ℕ) (v : Verdict) → text ≡ told_text told run b.names → v ≡ verdict_of run.end →
+      TellsRun told b limits (reply v text)
+  tells sound told text v is of = record {
     result = shown.result;
     run = by_statements same b limits shown.result sound shown.is;
-    is = replied text (report_of b.names shown.result) status (status_of shown.result.end)
-        (is ∙ report_shown run shown.result b.names shown.shows) (of ∙ ap status_of shown.shows.ending);
+    is = replied text (told_of told b.names shown.result) v (verdict_of shown.result.end)
+        (is ∙ told_shown told run shown.result b.names shown.shows) (of ∙ ap verdict_of shown.shows.ending);
   } where
-    replied : (t u : List ℕ) (s q : Status) → t ≡ u → s ≡ q → reply s t ≡ reply q u
+    replied : (t u : List ℕ) (s q : Verdict) → t ≡ u → s ≡ q → reply s t ≡ reply q u
     replied t u s q e f = cc
 
--- a run that is over is no failure
-pub ended_well : (e : End) → ¬ IsFailure (status_of e)
-ended_well (end.Time t) h = h
-ended_well (end.Idle s) h = h
-ended_well (end.Stop s) h = h
-ended_well (end.Fault f at line) h = h
-ended_well (end.Statements at line) h = h
-ended_well (end.Deltas s) h = h
+-- the run of a design that a board shows is its sequential run
+pub shown_all : {E : Type 0} (design : Design) (limits : Limits) (r : Result) → nodes.IsSequentialRun design limits r → (o : Answer Run E) →
+    IfOk o (λ run. (found : Result) → nodes.IsSequentialRun design limits found → Shows run found) → IfOk o (ShowsRun design limits)
+shown_all design limits r is (Ok run) all = record { result = r; is = is; shows = all r is }
+shown_all design limits r is (Err e) all = tt
+
+-- a run that ended isn't refused
+pub granted : (e : End) → is_granted (verdict_of e) ≡ true
+granted (end.Time t) = refl
+granted (end.Idle s) = refl
+granted (end.Stop s) = refl
+granted (end.Fault f at line) = refl
+granted (end.Statements at line) = refl
+granted (end.Deltas s) = refl

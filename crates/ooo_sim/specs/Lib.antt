@@ -1,8 +1,10 @@
-pub mod Statuses
+pub mod Outcomes
 pub mod Requests
 pub mod Lines
 pub mod Counts
+pub mod Summaries
 pub mod Replies
 pub mod Pumps
 pub mod Calls
+pub mod Boards
 pub mod Laws

@@ -2,20 +2,23 @@
 //!
 //! [`alone`] and [`simulate`] carry the whole contract of the program. `specs/Replies.antt` says what a call would write,
 //! as one relation of the words, the bytes that they have read, and a reply; `specs/Calls.antt` what a call reads and writes
-//! of its source and its sink.
+//! of its source and its sink, and `specs/Boards.antt` which board it hands out.
 #![tactic(auto)]
 
 mod call;
 mod counts;
 pub mod law;
 mod lines;
+mod outcome;
 mod pump;
 mod reply;
 mod request;
-mod status;
+mod running;
+mod summary;
+mod workers;
 
 pub use call::{alone, simulate};
 pub use ooo_lexer::MOST_BYTES;
+pub use outcome::{Failure, Outcome, Refusal, Verdict};
 pub use reply::Reply;
-pub use request::{Asked, Request, Wanted};
-pub use status::Status;
+pub use request::{Request, Told, Wanted};

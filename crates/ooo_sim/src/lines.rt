@@ -1,17 +1,34 @@
 ghost use Rattle.std.specs.Prelude.{◌≡◌, ◌≢◌, ◌++◌, IfOk, OnOk};
-ghost use Rattle.ooo_sim.specs.Lines.{elaborate_line, layer_head, layer_line, names_text, refusal_line};
+ghost use Rattle.ooo_front.specs.declared.answer.Refused.TheVariants as front;
+ghost use Rattle.ooo_sim.specs.Lines.{elaborate_line, layer_head, layer_line, names_text, refusal_line, text_line};
+ghost use Rattle.ooo_sim.specs.declared.outcome.Refusal.TheVariants as refusal;
 
+use crate::outcome::Refusal;
 use itoa::Buffer;
 use ooo_front::Refused;
 use ooo_lexer::Position;
 use ooo_value::Name;
-use ooo_walk::Refusal;
+use ooo_words::{WordsError, refusal};
 use std::alloc::{AllocError, Global};
 
-/// The line that refuses a text. Want of memory has none.
-pub(crate) fn refusal_line(alloc: Global, why: &Refused) -> Result<Vec<u8>, AllocError>
+/// The line of a refusal. Want of memory has none.
+pub(crate) fn refusal_line(alloc: Global, why: &Refusal) -> Result<Vec<u8>, AllocError>
     ensures line { IfOk result (λ line. line.items ≡ refusal_line why.now) }
-    ensures refused { OnOk result (why.now ≢ Refused.OutOfMemory) }
+    ensures refused { OnOk result (why.now ≢ refusal.Text front.OutOfMemory) }
+{
+    match why {
+        Refusal::Words(WordsError::OutOfMemory) => Err(AllocError),
+        Refusal::Words(error) => refusal(alloc, error),
+        Refusal::TooLong => Vec::from_slice(alloc, b"refused source TooLong\n"),
+        Refusal::Text(why) => text_line(alloc, why),
+        Refusal::StopMissing => Vec::from_slice(alloc, b"refused words StopMissing\n"),
+    }
+}
+
+// The line of a text that is refused. Want of memory has none.
+fn text_line(alloc: Global, why: &Refused) -> Result<Vec<u8>, AllocError>
+    ensures line { IfOk result (λ line. line.items ≡ text_line why.now) }
+    ensures refused { OnOk result (why.now ≢ front.OutOfMemory) }
 {
     match why {
         Refused::Lexer(breach, at) => layer_line(alloc, "lexer", breach.name(), *at),
@@ -62,7 +79,7 @@ fn add_names(names: &[Name], line: &mut Vec<u8>) -> Result<(), AllocError>
 }
 
 // The line of elaboration, which names what it is about.
-fn elaborate_line(alloc: Global, refusal: &Refusal) -> Result<Vec<u8>, AllocError>
+fn elaborate_line(alloc: Global, refusal: &ooo_walk::Refusal) -> Result<Vec<u8>, AllocError>
     ensures { IfOk result (λ line. line.items ≡ elaborate_line refusal.now) }
 {
     let mut line = layer_head(alloc, "elaborate", refusal.what.name(), refusal.at)?;

@@ -1,75 +1,101 @@
-ghost use Rattle.std.specs.Prelude.{◌≡◌, ◌≢◌, Ok, Err, IfOk, IfErr};
-ghost use Rattle.ooo_words.specs.Limits.{IsWithinLimits};
-ghost use Rattle.ooo_sim.specs.Requests.{words_of, request_for, request_of, AsksInRange};
+ghost use Rattle.std.specs.Prelude.{◌≡◌, Ok, IfOk};
+ghost use Rattle.ooo_words.specs.Limits.{AreWithinLimits, IsWithinLimits, by_default};
+ghost use Rattle.ooo_sim.specs.Requests.{AsksInRange, request_for, request_of, words_of};
 
-use ooo_time::Time;
-use ooo_words::{Command, WordsError, read};
-use std::alloc::Global;
+use crate::outcome::Refusal;
+use ooo_words::{Command, RunOptions, WordsError, read};
+use std::alloc::{AllocError, Global};
 
-/// What is asked of a run.
+/// What is told of a run.
 #[derive(Clone, Copy, Debug, PartialEq, Eq)]
-pub struct Asked {
-    /// The stop time in place of the model's own, if one is given.
-    pub stop: Option<Time>,
-    /// How many delta cycles there may be at one time.
-    pub deltas: u32,
-    /// How many statements an activation may count.
-    pub statements: u32,
+pub enum Told {
+    /// Its report: what was printed, what happened on each channel, and how it ended.
+    Report,
+    /// Its summary: how many activations and history entries it has, the sum of what was printed, and how it ended.
+    Summary,
 }
 
 /// What is asked of a text.
 #[derive(Clone, Copy, Debug, PartialEq, Eq)]
 pub enum Wanted {
-    /// The report of its model's run by the sequential scheduler: the command `plain`.
-    Report(Asked),
+    /// What its model's run gives. Its report, by the sequential scheduler, is what the command `plain` asks for.
+    Run(Told, RunOptions),
     /// How many processes and segments its model has: the command `check`.
     Counts,
     /// The tables of its model's segments: the command `tables`.
     Tables,
 }
 
-/// What the words ask for, of what is built.
-#[derive(Clone, Copy, Debug, PartialEq, Eq)]
+/// What the words ask for.
+#[derive(Debug, Drop)]
 pub enum Request {
-    /// Something of the text that the source gives.
+    /// Something of the text that the source gives, without workers.
     OfText(Wanted),
-    /// Something that isn't built.
-    NotBuilt,
+    /// The report of the run of that text's model by so many workers: the command `run`.
+    Run {
+        options: RunOptions,
+        workers: u32,
+    },
+    /// The summary of the run of a generated text's model by so many workers: the command `bench`.
+    Bench {
+        stages: u32,
+        items: u32,
+        seed: u32,
+        workers: u32,
+    },
+    /// Nothing that may be had.
+    Refused(Refusal),
 }
 
 /// Reads the words.
 ///
 /// # Errors
 ///
-/// The first breach of the words, or `OutOfMemory` where memory ran out.
-pub(crate) fn read_request(alloc: Global, words: &[String]) -> Result<Request, WordsError>
-    ensures ok { IfOk result (λ request. request_of (words_of words.now) ≡ Ok request) }
-    ensures err { IfErr result (λ error. error ≢ WordsError.OutOfMemory
-        → request_of (words_of words.now) ≡ Err error) }
+/// Only where memory runs out.
+pub(crate) fn read_request(alloc: Global, words: &[String]) -> Result<Request, AllocError>
+    ensures request { IfOk result (λ request. request ≡ request_of (words_of words.now)) }
     ensures range { IfOk result AsksInRange }
 {
-    let command = read(alloc, words)?;
-    Ok(request_for(command))
+    match read(alloc, words) {
+        Ok(command) => Ok(request_for(command)),
+        Err(WordsError::OutOfMemory) => Err(AllocError),
+        Err(error) => Ok(Request::Refused(Refusal::Words(error))),
+    }
+}
+
+/// What is asked of a run where the words say nothing of it.
+pub(crate) fn default_options() -> RunOptions
+    ensures default { result ≡ by_default }
+    ensures range { AreWithinLimits result }
+{
+    RunOptions {
+        stop: None,
+        deltas: 10_000,
+        statements: 1_000_000,
+    }
 }
 
 // What a command asks for.
 fn request_for(command: Command) -> Request
     requires { IsWithinLimits command }
-    ensures request { request_for (Ok command) ≡ Ok result }
+    ensures request { result ≡ request_for (Ok command) }
     ensures range { AsksInRange result }
 {
     match command {
-        Command::Plain {
-            stop,
-            deltas,
-            statements,
-        } => Request::OfText(Wanted::Report(Asked {
-            stop,
-            deltas,
-            statements,
-        })),
+        Command::Plain(options) => Request::OfText(Wanted::Run(Told::Report, options)),
+        Command::Run { options, workers } => Request::Run { options, workers },
         Command::Check => Request::OfText(Wanted::Counts),
         Command::Tables => Request::OfText(Wanted::Tables),
-        _ => Request::NotBuilt,
+        Command::Bench {
+            stages,
+            items,
+            seed,
+            workers,
+        } => Request::Bench {
+            stages,
+            items,
+            seed,
+            workers,
+        },
     }
 }

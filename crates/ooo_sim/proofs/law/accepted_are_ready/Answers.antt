@@ -6,6 +6,7 @@ returns c text accepted is =
     let e = is.elaborated in record {
       sound = c.sound.ensures e.tree accepted.bound e.right e.is;
       design = is.lowered.design;
+      segments = is.segments;
       few = is.few;
       names = c.named.ensures (unit_of e.tree).tree accepted.bound e.is;
       stop = c.stops.ensures (unit_of e.tree).tree accepted.bound e.is;

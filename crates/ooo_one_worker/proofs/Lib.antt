@@ -1,4 +1,0 @@
-pub mod Counting
-pub mod Turned
-pub mod Ending
-pub mod Running
