@@ -1,11 +1,12 @@
-ghost use Rattle.std.specs.Prelude.{◌≡◌, IfOk};
+ghost use Rattle.std.specs.Prelude.{◌≡◌, IfOk, Some};
 ghost use Rattle.std.specs.List.{position_from};
 ghost use Rattle.ooo_activation.specs.Activations.{channel_kind, one_event};
 ghost use Rattle.ooo_activation.specs.Activations.{variable_kind as kind_of_variable};
 ghost use Rattle.ooo_code.specs.declared.node.NodeKind.TheVariants as node;
 ghost use Rattle.ooo_lower.specs.Changes.{events_of, is_event};
 ghost use Rattle.ooo_lower.specs.Scenes.{home_at};
-ghost use Rattle.ooo_shapes.specs.Expressions.{converted, index_slot, kind_number, slot_of, value_slot};
+ghost use Rattle.ooo_shapes.specs.Expressions.{converted, index_slot, kind_number, lowered, slot_of};
+ghost use Rattle.ooo_shapes.specs.Expressions.{value_slot};
 ghost use Rattle.ooo_shapes.specs.Shapes.{leave_kind, result_expr, return_kind};
 ghost use Rattle.ooo_shapes.specs.Simples.{aim_kind, channel_slot, current_expr, item_kind, lowered_wait};
 ghost use Rattle.ooo_shapes.specs.Simples.{put_at_kind, put_kind, wait_kind};
@@ -107,6 +108,22 @@ fn write_kind(
     Ok(NodeKind::Write(channel, value))
 }
 
+// A value goes to an element, whose index is evaluated then.
+fn element_kind(
+    alloc: Global,
+    scene: Scene<'_>,
+    t: Around,
+    variable: u32,
+    index: &BoundExpr,
+    value: NodeExpr,
+) -> Result<NodeKind, AllocError>
+    ensures { IfOk result (λ k. k ≡ node.Store variable (Some (lowered t index.now))
+        (converted (kind_of_variable scene.entry.known.model.now variable) value)) }
+{
+    let index = keeping!(value; lowered(alloc, t, index));
+    store_kind(alloc, scene, variable, Some(index), value)
+}
+
 /// A value is put into a target, whose index is evaluated then.
 pub(crate) fn put_kind(
     alloc: Global,
@@ -123,8 +140,7 @@ pub(crate) fn put_kind(
         BoundTarget::Local(kind, slot) => set_kind(alloc, t, *kind, *slot, value),
         BoundTarget::Variable(variable) => store_kind(alloc, scene, *variable, None, value),
         BoundTarget::Element(variable, index) => {
-            let index = keeping!(value; lowered(alloc, t, index));
-            store_kind(alloc, scene, *variable, Some(index), value)
+            element_kind(alloc, scene, t, *variable, index, value)
         }
         BoundTarget::Signal(channel) => write_kind(alloc, scene, *channel, value),
     }
