@@ -7,7 +7,8 @@ use Rattle.ooo_bound.specs.declared.model.BoundFunction.{BoundFunction}
 use Rattle.ooo_bound.specs.declared.stat.BoundStat.{BoundStat}
 use Rattle.ooo_bound.specs.declared.stat.BoundTarget.{BoundTarget}
 use Rattle.ooo_lower.specs.declared.extents.Extent.{Extent}
-use Rattle.ooo_lower.specs.Extents.{AreExtents, Count, IsExtentOf, IsOneMore, IsThen, Measures, home_in}
+use Rattle.ooo_lower.specs.declared.extents.Outline.{Outline}
+use Rattle.ooo_lower.specs.Extents.{AreOutlines, Count, IsExtentOf, IsOneMore, IsOutlineOf, IsThen, Measures, home_in}
 use Rattle.ooo_shapes.specs.Simples.{Home}
 use Rattle.ooo_shapes.specs.Shapes.{Callees, Shape, body_shape, callee_by, callees_within, call_kinds, call_shape, shape_of}
 
@@ -81,16 +82,16 @@ module _ (m : Bound) where
 
   -- ---- what is known
 
-  no_extents : (n f : ℕ) (e : Extent) → slice_get (replicate n None) f ≡ Some (Some e) → ⊥
-  no_extents zero f e h = cc
-  no_extents (suc n) zero e h = cc
-  no_extents (suc n) (suc f) e h = no_extents n f e h
+  no_outlines : (n f : ℕ) (e : Outline) → slice_get (replicate n None) f ≡ Some (Some e) → ⊥
+  no_outlines zero f e h = cc
+  no_outlines (suc n) zero e h = cc
+  no_outlines (suc n) (suc f) e h = no_outlines n f e h
 
   -- nothing is known at first
-  pub none_known : (known : List (Option Extent)) (n : ℕ) → known ≡ replicate n None → AreExtents m known
-  none_known known n is f function e found h = absurd (no_extents n f e (sym (ap (λ k. slice_get k f) is) ∙ h))
+  pub none_known : (known : List (Option Outline)) (n : ℕ) → known ≡ replicate n None → AreOutlines m known
+  none_known known n is f function e found h = absurd (no_outlines n f e (sym (ap (λ k. slice_get k f) is) ∙ h))
 
-  after_set : (xs : List (Option Extent)) (i j : ℕ) (y : Option Extent) (z : Extent) → slice_get (slice_set xs i y) j ≡ Some (Some z) → ((j ≡ i) × (y ≡ Some z)) ⊎ (slice_get xs j ≡ Some (Some z))
+  after_set : (xs : List (Option Outline)) (i j : ℕ) (y : Option Outline) (z : Outline) → slice_get (slice_set xs i y) j ≡ Some (Some z) → ((j ≡ i) × (y ≡ Some z)) ⊎ (slice_get xs j ≡ Some (Some z))
   after_set [] i j y z h = inr h
   after_set (x ∷ xs) zero zero y z h = inl (refl, cc)
   after_set (x ∷ xs) zero (suc j) y z h = inr h
@@ -100,15 +101,15 @@ module _ (m : Bound) where
   same_function : (fs : List BoundFunction) (i j : ℕ) (f g : BoundFunction) → j ≡ i → slice_get fs i ≡ Some f → slice_get fs j ≡ Some g → f ≡ g
   same_function fs i j f g e h k = let both : Some f ≡ Some g = sym h ∙ ap (slice_get fs) (sym e) ∙ k in cc
 
-  same_extent : (a b : Extent) → Some a ≡ Some b → a ≡ b
-  same_extent a b h = cc
+  same_outline : (a b : Outline) → Some a ≡ Some b → a ≡ b
+  same_outline a b h = cc
 
   -- one more is known
-  pub more_known : (known new : List (Option Extent)) (i : ℕ) (e : Extent) (function : BoundFunction) → AreExtents m known → slice_get m.functions i ≡ Some function → IsExtentOf e m function → new ≡ slice_set known i (Some e) → AreExtents m new
+  pub more_known : (known new : List (Option Outline)) (i : ℕ) (e : Outline) (function : BoundFunction) → AreOutlines m known → slice_get m.functions i ≡ Some function → IsOutlineOf e m function → new ≡ slice_set known i (Some e) → AreOutlines m new
   more_known known new i e function all found is set f other o foundf h =
       elim (after_set known i f (Some e) o (sym (ap (λ k. slice_get k f) set) ∙ h)) [
         | inl p ↦
-            subst (λ x. IsExtentOf x m other) (same_extent e o p.1) (subst (λ g. IsExtentOf e m g) (same_function m.functions i f function other p.0 found foundf) is)
+            subst (λ x. IsOutlineOf x m other) (same_outline e o p.1) (subst (λ g. IsOutlineOf e m g) (same_function m.functions i f function other p.0 found foundf) is)
         | inr q ↦ all f other o foundf q
       ]
 

@@ -53,10 +53,6 @@ jump_taken y t line next f to r0 c d e p =
 
 -- ---- tasks
 
--- a part is to be put next
-pub goes_next : (x : Shape) (t : Around) (next : ℕ) (r0 r1 : Rest) (c : Code) → r1 ≡ before x t next r0 → Goes (before x t next r0) r1 c c
-goes_next x t next r0 r1 c e = subst (λ r. Goes (before x t next r0) r c c) (sym e) (goes_same (before x t next r0) c)
-
 -- another shape that is the same
 pub goes_as : (x y : Shape) (t : Around) (next : ℕ) (r0 r1 : Rest) (c d : Code) → y ≡ x → Goes (before x t next r0) r1 c d → Goes (before y t next r0) r1 c d
 goes_as x y t next r0 r1 c d e g = subst (λ y. Goes (before y t next r0) r1 c d) (sym e) g

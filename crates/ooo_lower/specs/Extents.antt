@@ -6,9 +6,10 @@ use Rattle.ooo_bound.specs.declared.model.BoundFunction.{BoundFunction}
 use Rattle.ooo_bound.specs.declared.stat.BoundStat.{BoundStat}
 use Rattle.ooo_bound.specs.declared.stat.LinedSimple.{LinedSimple}
 use Rattle.ooo_lower.specs.declared.extents.Extent.{Extent}
+use Rattle.ooo_lower.specs.declared.extents.Outline.{Outline}
 use Rattle.ooo_lower.specs.declared.scene.Known.{Known}
 use Rattle.ooo_shapes.specs.Simples.{Home}
-use Rattle.ooo_shapes.specs.Shapes.{Shape, Callees, after_shape, body_shape, call_kinds, callees_within, empty, lined_shapes, loop_shape, shape_of, test_or_true, then}
+use Rattle.ooo_shapes.specs.Shapes.{Shape, Callees, after_shape, body_shape, call_kinds, callees_within, empty, function_widths, lined_shapes, loop_shape, shape_of, test_or_true, then}
 
 -- a number of nodes where functions are called, which go by the static events of the process and by the callees
 abbrev pub Count : Type 0
@@ -40,14 +41,19 @@ called_size h callees f = 1 + (length (call_kinds f) + ((body_shape h callees f.
 abbrev pub IsExtentOf : Extent → Bound → BoundFunction → Type 0
 IsExtentOf e b f = Measures e b (λ h callees. called_size h callees f)
 
--- what is known are the extents of calls, by the functions' numbers
-abbrev pub AreExtents : Bound → List (Option Extent) → Type 0
-AreExtents b known =
-    (f : ℕ) (function : BoundFunction) (e : Extent) →
-    slice_get b.functions f ≡ Some function → slice_get known f ≡ Some (Some e) → IsExtentOf e b function
+-- the extent of a call of a function in this sense, and the slots that the function's locals need
+pub record IsOutlineOf (o : Outline) (b : Bound) (f : BoundFunction) : Type 0 where
+  pub extent_is : IsExtentOf o.extent b f
+  pub widths_are : o.widths ≡ function_widths f
+
+-- what is known are the outlines of functions, by their numbers
+abbrev pub AreOutlines : Bound → List (Option Outline) → Type 0
+AreOutlines b known =
+    (f : ℕ) (function : BoundFunction) (o : Outline) →
+    slice_get b.functions f ≡ Some function → slice_get known f ≡ Some (Some o) → IsOutlineOf o b function
 
 abbrev pub IsKnown : Known → Type 0
-IsKnown known = AreExtents known.model.now known.extents.now
+IsKnown known = AreOutlines known.model.now known.outlines.now
 
 -- the statement after `else`, if there is one
 abbrev pub else_shape : Home → Callees → Option BoundStat → Shape

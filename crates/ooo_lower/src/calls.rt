@@ -2,13 +2,12 @@ ghost use Rattle.std.specs.Prelude.{◌≡◌, ◌+◌, ◌++◌, [], ◌∷◌,
 ghost use Rattle.ooo_lower.specs.Codes.{Puts, PutsKinds};
 ghost use Rattle.ooo_lower.specs.Parts.{argument_kind};
 ghost use Rattle.ooo_lower.specs.Scenes.{home_at};
-ghost use Rattle.ooo_shapes.specs.Shapes.{argument_nodes, call_kinds, inside_call, leave_kind, result_kinds};
-ghost use Rattle.ooo_shapes.specs.Shapes.{zero_nodes};
+ghost use Rattle.ooo_shapes.specs.Shapes.{argument_nodes, call_kinds, function_widths, inside_call, leave_kind};
+ghost use Rattle.ooo_shapes.specs.Shapes.{result_kinds, zero_nodes};
 ghost use Rattle.ooo_shapes.specs.Widths.{kinds_of};
 
 use crate::code::Code;
 use crate::expressions::lowered;
-use crate::extents::function_widths;
 use crate::kinds_of_nodes::{put_kind, result_expr, set_kind};
 use crate::numbers::{behind, narrow};
 use crate::scene::Scene;
@@ -55,14 +54,18 @@ fn push_result(code: &mut Code, kind: Option<Kind>) -> Result<(), AllocError>
     }
 }
 
-/// The slots of a called function.
+/// The slots of a called function, whose locals need these.
 #[tactic(auto, using(crate::proofs::Puts::kinds_more))]
-pub(crate) fn push_kinds(code: &mut Code, function: &BoundFunction) -> Result<(), AllocError>
+pub(crate) fn push_kinds(
+    code: &mut Code,
+    function: &BoundFunction,
+    widths: Widths,
+) -> Result<(), AllocError>
+    requires { widths ≡ function_widths function.now }
     ensures { OnOk result (PutsKinds (call_kinds function.now) code.old code.new) }
 {
-    let locals = function_widths(function)?;
     push_result(code, function.result)?;
-    push_locals(code, locals)
+    push_locals(code, widths)
 }
 
 /// The slots from this one on get 0 of their kinds.
@@ -121,15 +124,16 @@ pub(crate) fn put_arguments(
     Ok(())
 }
 
-/// Around the body of a called function, whose first slot is this, and whose end stands there.
+/// Around the body of a called function, whose locals need these slots, whose first slot is this, and whose end stands there.
 pub(crate) fn frame_of(
     function: &BoundFunction,
+    widths: Widths,
     free: u32,
     leave: u32,
 ) -> Result<Around, AllocError>
+    requires { widths ≡ function_widths function.now }
     ensures { IfOk result (λ u. u ≡ inside_call function.now free leave) }
 {
-    let widths = function_widths(function)?;
     let base = match function.result {
         None => free,
         Some(_) => behind(free, 1)?,

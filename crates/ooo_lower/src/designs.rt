@@ -15,7 +15,7 @@ ghost use Rattle.ooo_shapes.specs.Expressions.{first_kinds};
 
 use crate::calls::push_locals;
 use crate::code::Code;
-use crate::extents::{body_size, extents_of};
+use crate::extents::{body_size, outlines_of};
 use crate::numbers::past;
 use crate::order::callees_first;
 use crate::scene::{Known, Scene};
@@ -188,10 +188,10 @@ pub fn lower(alloc: Global, model: &Bound) -> Result<Design, LowerError>
         return Err(LowerError::CodeTooLarge);
     }
     let order = callees_first(alloc, weights.as_slice())?;
-    let extents = extents_of(alloc, model, order.as_slice())?;
+    let outlines = outlines_of(alloc, model, order.as_slice())?;
     let known = Known {
         model,
-        extents: extents.as_slice(),
+        outlines: outlines.as_slice(),
     };
     let design = lowered_design(alloc, known)?;
     Ok(design)

@@ -1,7 +1,7 @@
 ghost use Rattle.std.specs.Prelude.{◌≡◌, ◌+◌, ◌≤◌, ◌-◌, ℕ, Some, None, IfOk, MatchOption, OnOk, length, max, min};
 ghost use Rattle.std.specs.Prelude.{slice_get};
 ghost use Rattle.ooo_bound.specs.declared.stat.BoundTarget.{BoundTarget as BoundTargetSpec};
-ghost use Rattle.ooo_lower.specs.Extents.{AreExtents, Count, IsExtentOf, IsKnown, IsOneMore, IsThen};
+ghost use Rattle.ooo_lower.specs.Extents.{AreOutlines, Count, IsKnown, IsOneMore, IsOutlineOf, IsThen};
 ghost use Rattle.ooo_lower.specs.Extents.{Measures, else_shape};
 ghost use Rattle.ooo_shapes.specs.Shapes.{after_shape, body_shape, call_kinds, call_shape, callees_within};
 ghost use Rattle.ooo_shapes.specs.Shapes.{function_widths, lead_size, lined_shape, lined_shapes, shape_of};
@@ -23,6 +23,14 @@ use std::alloc::{AllocError, Global};
 pub(crate) struct Extent {
     pub(crate) nodes: u64,
     pub(crate) depth: u64,
+}
+
+/// What is known of the calls of a function: their extent but for arguments and the calls themselves, and the slots that the
+/// function's locals need.
+#[derive(Clone, Copy)]
+pub(crate) struct Outline {
+    pub(crate) extent: Extent,
+    pub(crate) widths: Widths,
 }
 
 // So many nodes, which call nothing.
@@ -51,9 +59,9 @@ fn one_more(e: Extent) -> Result<Extent, AllocError>
     Ok(Extent { nodes, ..e })
 }
 
-// How many nodes an extent has, where calls may be nested so deep. It is out of memory where they are nested deeper, which
-// those of a sound model aren't.
-fn nodes_within(e: Extent, depth: usize) -> Result<u64, AllocError>
+/// How many nodes an extent has, where calls may be nested so deep. It is out of memory where they are nested deeper, which
+/// those of a sound model aren't.
+pub(crate) fn nodes_within(e: Extent, depth: usize) -> Result<u64, AllocError>
     ensures { IfOk result (λ n. (n ≡ e.nodes) × (e.depth ≤ depth)) }
 {
     if e.depth > depth as u64 {
@@ -62,19 +70,20 @@ fn nodes_within(e: Extent, depth: usize) -> Result<u64, AllocError>
     Ok(e.nodes)
 }
 
-/// The slots that the locals of a function need.
-pub(crate) fn function_widths(function: &BoundFunction) -> Result<Widths, AllocError>
+// The slots that the locals of a function need.
+fn function_widths(function: &BoundFunction) -> Result<Widths, AllocError>
     ensures { IfOk result (λ w. w ≡ function_widths function.now) }
 {
     let params = of_params(function.params.as_slice())?;
     Ok(both(params, of_body(function.body.as_slice())))
 }
 
-/// How many slots a call has for the called function itself.
-pub(crate) fn call_slots(function: &BoundFunction) -> Result<u64, AllocError>
+// How many slots a call has for the called function itself, whose locals need these.
+fn call_slots(function: &BoundFunction, widths: Widths) -> Result<u64, AllocError>
+    requires { widths ≡ function_widths function.now }
     ensures { IfOk result (λ n. n ≡ length (call_kinds function.now)) }
 {
-    let locals = count_of(function_widths(function)?)?;
+    let locals = count_of(widths)?;
     match function.result {
         None => Ok(locals),
         Some(_) => sum(1, locals),
@@ -103,13 +112,13 @@ pub(crate) fn given(function: &BoundFunction, args: &[BoundExpr]) -> u64
     function.params.len().min(args.len()) as u64
 }
 
-// The extent of a call of a function but for its arguments. It is out of memory where it isn't known, as where the function
-// calls itself, by others or not.
-fn known_extent(known: Known<'_>, f: u32) -> Result<Extent, AllocError>
-    ensures { IfOk result (λ e. slice_get known.entry.extents.now f ≡ Some (Some e)) }
+/// What is known of the calls of a function. It is out of memory where nothing is, as where the function calls itself, by
+/// others or not.
+pub(crate) fn known_outline(known: Known<'_>, f: u32) -> Result<Outline, AllocError>
+    ensures { IfOk result (λ o. slice_get known.entry.outlines.now f ≡ Some (Some o)) }
 {
-    match at(known.extents, f as usize) {
-        Some(Some(extent)) => Ok(*extent),
+    match at(known.outlines, f as usize) {
+        Some(Some(outline)) => Ok(*outline),
         _ => Err(AllocError),
     }
 }
@@ -135,9 +144,9 @@ fn of_found(
         Measures e known.entry.model.now (λ h callees.
         (call_shape h line into args.now (callees f)).size)) }
 {
-    let called = known_extent(known, f)?;
-    let nodes = sum(called.nodes, given(function, args))?;
-    let depth = sum(1, called.depth)?;
+    let called = known_outline(known, f)?;
+    let nodes = sum(called.extent.nodes, given(function, args))?;
+    let depth = sum(1, called.extent.depth)?;
     Ok(Extent { nodes, depth })
 }
 
@@ -358,57 +367,63 @@ pub(crate) fn body_size(
 
 // ---- every function once
 
-// The extent of a call of a function but for its arguments, by those that are known so far.
-fn of_function(known: Known<'_>, function: &BoundFunction) -> Result<Extent, AllocError>
+// What is known of the calls of a function, by what is known so far of those of others.
+fn of_function(known: Known<'_>, function: &BoundFunction) -> Result<Outline, AllocError>
     requires { IsKnown known }
-    ensures { IfOk result (λ e. IsExtentOf e known.entry.model.now function.now) }
+    ensures { IfOk result (λ o. IsOutlineOf o known.entry.model.now function.now) }
 {
     let body = of_stats(known, function.body.as_slice())?;
-    let own = call_slots(function)?;
+    let widths = function_widths(function)?;
+    let own = call_slots(function, widths)?;
     let last = sum(body.nodes, 1)?;
     let behind = sum(own, last)?;
     let nodes = sum(1, behind)?;
-    Ok(Extent {
+    let extent = Extent {
         nodes,
         depth: body.depth,
-    })
+    };
+    Ok(Outline { extent, widths })
 }
 
-// Finds the extent of a call of a function, if there is the function.
-fn find_extent(model: &Bound, extents: &mut Items<Option<Extent>>, f: u32) -> Result<(), AllocError>
-    requires { AreExtents model.now extents.old }
-    ensures { OnOk result (AreExtents model.now extents.new) }
+// Finds what is to be known of the calls of a function, if there is the function.
+fn find_outline(
+    model: &Bound,
+    outlines: &mut Items<Option<Outline>>,
+    f: u32,
+) -> Result<(), AllocError>
+    requires { AreOutlines model.now outlines.old }
+    ensures { OnOk result (AreOutlines model.now outlines.new) }
 {
     let number = f as usize;
-    if number >= extents.len() {
+    if number >= outlines.len() {
         return Ok(());
     }
     let known = Known {
         model,
-        extents: extents.as_slice(),
+        outlines: outlines.as_slice(),
     };
     match function_of(known, f) {
         None => Ok(()),
         Some(function) => {
-            let extent = of_function(known, function)?;
-            extents.set(number, Some(extent));
+            let outline = of_function(known, function)?;
+            outlines.set(number, Some(outline));
             Ok(())
         }
     }
 }
 
-/// The extents of calls of functions, found in this order: those of called functions first.
-pub(crate) fn extents_of(
+/// What is known of the calls of functions, found in this order: that of called functions first.
+pub(crate) fn outlines_of(
     alloc: Global,
     model: &Bound,
     order: &[u32],
-) -> Result<Items<Option<Extent>>, AllocError>
-    ensures { IfOk result (λ extents. AreExtents model.now extents) }
+) -> Result<Items<Option<Outline>>, AllocError>
+    ensures { IfOk result (λ outlines. AreOutlines model.now outlines) }
 {
     let unknown = vec![in alloc; None; model.functions.len()]?;
-    let mut extents = Items::from_vec(unknown);
+    let mut outlines = Items::from_vec(unknown);
     'functions: for f in order {
-        find_extent(model, &mut extents, *f)?;
+        find_outline(model, &mut outlines, *f)?;
     }
-    Ok(extents)
+    Ok(outlines)
 }

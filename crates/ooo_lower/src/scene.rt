@@ -1,12 +1,12 @@
-use crate::extents::Extent;
+use crate::extents::Outline;
 use ooo_bound::Bound;
 use sqlite_items::Items;
 
-/// A model, and the extents of calls of its functions, by their numbers, as far as they are known.
+/// A model, and what is known of the calls of its functions, by their numbers.
 #[derive(Clone, Copy)]
 pub(crate) struct Known<'a> {
     pub(crate) model: &'a Bound,
-    pub(crate) extents: &'a [Option<Extent>],
+    pub(crate) outlines: &'a [Option<Outline>],
 }
 
 /// What code is made of: the model, and the static events of the process whose code it is.

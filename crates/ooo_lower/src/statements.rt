@@ -3,7 +3,7 @@ ghost use Rattle.ooo_code.specs.declared.node.NodeKind.TheVariants as kind;
 ghost use Rattle.ooo_bound.specs.declared.stat.BoundRight.TheVariants as bound_right;
 ghost use Rattle.ooo_bound.specs.declared.stat.BoundSimple.TheVariants as bound_simple;
 ghost use Rattle.ooo_lower.specs.Codes.{Emits, Puts};
-ghost use Rattle.ooo_lower.specs.Extents.{IsKnown, else_shape};
+ghost use Rattle.ooo_lower.specs.Extents.{IsKnown, IsOutlineOf, else_shape};
 ghost use Rattle.ooo_lower.specs.Parts.{one_kind};
 ghost use Rattle.ooo_lower.specs.Scenes.{home_at};
 ghost use Rattle.ooo_lower.specs.Calls.{IsPlaced};
@@ -18,9 +18,9 @@ ghost use Rattle.ooo_shapes.specs.Simples.{counted};
 use crate::calls::{frame_of, leave_kind, push_kinds, put_arguments, put_zeros};
 use crate::code::Code;
 use crate::expressions::{lowered, lowered_time};
-use crate::extents::{body_size, call_slots, callee, given};
+use crate::extents::{Outline, callee, given, known_outline, nodes_within};
 use crate::kinds_of_nodes::{lowered_wait, return_kind};
-use crate::numbers::past;
+use crate::numbers::{less, past, sum};
 use crate::simples::{Site, Spot, begins};
 use crate::splitting::{push, test_of};
 use crate::tasks::{Loop, Part, Task, Test};
@@ -200,22 +200,23 @@ impl<'a> Site<'a> {
         }
     }
 
-    // Where the parts of a call go.
+    // Where the parts of a call go. Without its arguments it has two nodes besides those before its end: the first and the last.
     fn call_places(
         self,
         code: &Code,
         function: &BoundFunction,
+        outline: Outline,
         args: &[BoundExpr],
     ) -> Result<CallPlaces, AllocError>
-        requires { IsKnown self.scene.known }
+        requires { IsOutlineOf outline self.scene.known.model.now function.now }
         ensures { IfOk result (λ p. IsPlaced self.entry code.now function.now args.now p) }
     {
         let free = code.free()?;
         let first = code.after()?;
-        let args_at = past(first, call_slots(function)?)?;
-        let body_at = past(args_at, given(function, args))?;
-        let size = body_size(self.scene, self.spot.depth, function.body.as_slice())?;
-        let leave = past(body_at, size)?;
+        let whole = nodes_within(outline.extent, self.spot.depth)?;
+        let within = less(whole, 2)?;
+        let size = sum(within, given(function, args))?;
+        let leave = past(first, size)?;
         Ok(CallPlaces { free, first, leave })
     }
 
@@ -226,8 +227,9 @@ impl<'a> Site<'a> {
         tasks: &mut Items<Task<'a>>,
         call: CallIn<'a>,
         function: &'a BoundFunction,
+        outline: Outline,
     ) -> Result<(), AllocError>
-        requires { IsKnown self.scene.known }
+        requires { IsOutlineOf outline self.scene.known.model.now function.now }
         ensures { OnOk result (Takes self.entry (λ h callees.
             call_shape h self.entry.spot.line call.entry.into.now call.entry.args.now
             (Some (record {
@@ -235,11 +237,11 @@ impl<'a> Site<'a> {
               body = body_shape h callees function.now.body;
             }))) tasks.old tasks.new code.old code.new) }
     {
-        let places = self.call_places(code, function, call.args)?;
-        let u = frame_of(function, places.free, places.leave)?;
+        let places = self.call_places(code, function, outline, call.args)?;
+        let u = frame_of(function, outline.widths, places.free, places.leave)?;
         let params = function.params.as_slice();
         code.put_counted(NodeKind::Goto, self.spot.line, places.first)?;
-        push_kinds(code, function)?;
+        push_kinds(code, function, outline.widths)?;
         put_zeros(code, self.spot.line, places.free)?;
         put_arguments(self.alloc, code, self.spot, u, params, call.args)?;
         let leave = Part::Leave(call.into, function.result, places.free);
@@ -267,12 +269,13 @@ impl<'a> Site<'a> {
         match callee(self.scene, self.spot.depth, call.function) {
             None => Ok(()),
             Some(function) => {
+                let outline = known_outline(self.scene.known, call.function)?;
                 let spot = Spot {
                     depth: self.spot.depth - 1,
                     ..self.spot
                 };
                 let inner = Site { spot, ..self };
-                inner.begin_call(code, tasks, call, function)
+                inner.begin_call(code, tasks, call, function, outline)
             }
         }
     }
@@ -439,8 +442,8 @@ impl<'a> Site<'a> {
             tasks.old tasks.new code.old code.new) }
     {
         match stat {
-            BoundStat::Block(body) => push(tasks, Part::Body(body.as_slice()), self.spot),
-            BoundStat::Simple(x) => push(tasks, Part::Simple(x.get()), self.spot),
+            BoundStat::Block(body) => self.take_body(code, tasks, body.as_slice()),
+            BoundStat::Simple(x) => self.take_simple(code, tasks, x.get()),
             BoundStat::Break(line) => self.put_jump(code, *line, self.spot.around.break_to),
             BoundStat::Continue(line) => self.put_jump(code, *line, self.spot.around.continue_to),
             BoundStat::Return(line, value) => self.put_return(code, *line, value),

@@ -7,4 +7,7 @@ pub returns : goal.returns
 returns c =
     let model = c.args.known.model.now in
     let body = subst (λ xs. Measures c.in_ok-body.body model (λ h cs. (body_shape h cs xs).size)) c.as_slice.ensures c.in_ok-body.ensures in
-    λ s d le. omega (arith, c.in_ok-nodes.ensures, c.in_ok-behind.ensures, c.in_ok-own.ensures, c.in_ok-last.ensures, body s d le)
+    record {
+      extent_is = λ s d le. omega (arith, c.in_ok-nodes.ensures, c.in_ok-behind.ensures, c.in_ok-own.ensures, c.in_ok-last.ensures, body s d le);
+      widths_are = c.in_ok-widths.ensures;
+    }

@@ -3,7 +3,7 @@ use Rattle.std.proofs.lemmas.Result.{on_ok_weaker}
 use Rattle.ooo_lower.specs.Scenes.{home_at}
 use Rattle.ooo_lower.specs.Tasks.{left_of}
 use Rattle.ooo_lower.proofs.Shaped.{shape_Break, shape_Continue, shape_Return}
-use Rattle.ooo_lower.proofs.Stated.{block_is, do_is, for_is, goes_as, goes_next, if_is, jump_taken, simple_is, while_is}
+use Rattle.ooo_lower.proofs.Stated.{block_is, do_is, for_is, goes_as, if_is, jump_taken, simple_is, while_is}
 use Rattle.ooo_code.specs.declared.node.NodeKind.TheVariants as kind
 use Rattle.ooo_shapes.specs.Shapes.{body_shape, callees_within, lined_shape, return_kind, shape_of}
 use Rattle.ooo_lower.proofs.simples.Site.take_stat.Goals as goal
@@ -13,18 +13,18 @@ returns-in-Block c =
     let home = home_at c.args.self.scene in
     let callees = callees_within c.args.self.spot.depth home in
     let s = c.args.self.spot in
-    on_ok_weaker c.push.result
-    (λ g. goes_as (body_shape home callees c.as_slice.result.now) (shape_of home callees c.args.stat.now) s.around s.next (left_of home c.args.tasks.now) (left_of home c.push.new.tasks) c.args.code.now c.args.code.now (block_is home callees c.args.stat.now c.in-Block.body c.as_slice.result.now c.in-Block.is c.as_slice.ensures) (goes_next (body_shape home callees c.as_slice.result.now) s.around s.next (left_of home c.args.tasks.now) (left_of home c.push.new.tasks) c.args.code.now g))
-    (c.push.ensures home)
+    on_ok_weaker c.take_body.result
+    (λ g. goes_as _ _ s.around s.next (left_of home c.args.tasks.now) (left_of home c.take_body.new.tasks) c.args.code.now _ (block_is home callees c.args.stat.now c.in-Block.body c.as_slice.result.now c.in-Block.is c.as_slice.ensures) g)
+    c.take_body.ensures
 
 pub returns-in-Simple : goal.returns-in-Simple
 returns-in-Simple c =
     let home = home_at c.args.self.scene in
     let callees = callees_within c.args.self.spot.depth home in
     let s = c.args.self.spot in
-    on_ok_weaker c.push-in-Simple.result
-    (λ g. goes_as (lined_shape home callees c.get.result.now) (shape_of home callees c.args.stat.now) s.around s.next (left_of home c.args.tasks.now) (left_of home c.push-in-Simple.new.tasks) c.args.code.now c.args.code.now (simple_is home callees c.args.stat.now c.in-Simple.x c.get.result.now c.in-Simple.is c.get.ensures) (goes_next (lined_shape home callees c.get.result.now) s.around s.next (left_of home c.args.tasks.now) (left_of home c.push-in-Simple.new.tasks) c.args.code.now g))
-    (c.push-in-Simple.ensures home)
+    on_ok_weaker c.take_simple.result
+    (λ g. goes_as _ _ s.around s.next (left_of home c.args.tasks.now) (left_of home c.take_simple.new.tasks) c.args.code.now _ (simple_is home callees c.args.stat.now c.in-Simple.x c.get.result.now c.in-Simple.is c.get.ensures) g)
+    c.take_simple.ensures
 
 pub returns-in-Break : goal.returns-in-Break
 returns-in-Break c =
