@@ -55,7 +55,11 @@ impl Core {
             end,
         } = done;
         let Frame { entry, slots } = frame;
-        let Emitted { output, effects } = emitted;
+        let Emitted {
+            output,
+            effects,
+            counted: _,
+        } = emitted;
         let effects = effects.as_slice();
         self.bank.apply(effects, at);
         move_back(&mut self.variables, owned);

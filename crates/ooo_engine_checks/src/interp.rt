@@ -190,7 +190,11 @@ pub fn run_from(
     let start = start_from(entry, statements);
     let mut emitted = Emitted::new(alloc);
     let halt = run_process(parts, &mut emitted, design, start)?;
-    let Emitted { output, effects } = emitted;
+    let Emitted {
+        output,
+        effects,
+        counted: _,
+    } = emitted;
     Ok(Outcome {
         entry: halt.entry_after(entry),
         output,

@@ -1,6 +1,6 @@
 -- Variables that are carried: where one stands, and other elements in its place.
 use Rattle.std.proofs.Common.{◌≡◌, ◌≢◌, ℕ, zero, suc, ◌<◌, ◌==◌, List, [], ◌∷◌, length, Bool, true, false, if◌then◌else◌, Some, None, get_or, refl, sym, ap, ◌∙◌, arith}
-use Rattle.std.specs.Prelude.{All, MatchOption, Option, slice_set}
+use Rattle.std.specs.Prelude.{All, MatchOption, Option, is_some, slice_set}
 use Rattle.std.proofs.lemmas.Bool.Decides.{nat_tests}
 use Rattle.ooo_value.specs.declared.values.Value.{Value}
 use Rattle.ooo_interp.specs.Carrying.{Carried, IsAscending, listed, with_listed}
@@ -17,6 +17,37 @@ StandsAt xs x at = NumberStandsAt number_of_carried xs x at
 -- where one with number x stands
 pub found_at : (xs : List Carried) (x at : ℕ) (e : Carried) → at < length xs → e ≡ get_or xs at e → e.0 ≡ x → StandsAt xs x at
 found_at xs x at e lt there same = stands_from number_of_carried xs x at e lt (ap number_of_carried (sym there) ∙ same)
+
+-- all with numbers below n
+abbrev pub AreBelow : ℕ → List Carried → Type 0
+AreBelow n xs = All (λ c. c.0 < n) xs
+
+below_with : (n : ℕ) (y : Carried) (ys : List Carried) → y.0 < n → AreBelow n ys → AreBelow n (y ∷ ys)
+below_with n y ys lt h zero d within = lt
+below_with n y ys lt h (suc k) d within = h k d (omega arith)
+
+-- with other elements their numbers are the same
+pub still_below : (xs : List Carried) (x : ℕ) (f : List Value → List Value) (n : ℕ) → AreBelow n xs → AreBelow n (with_listed x f xs)
+still_below [] x f n h = h
+still_below (y ∷ ys) x f n h =
+    let lt : y.0 < n = h 0 y (omega arith) in
+    let later : AreBelow n ys = λ k d within. h (suc k) d (omega arith) in
+    by (x == y.0) lt later (still_below ys x f n later)
+  where
+    by : (b : Bool) → y.0 < n → AreBelow n ys → AreBelow n (with_listed x f ys) → AreBelow n (if b then (y.0, f y.1) ∷ ys else y ∷ with_listed x f ys)
+    by true lt later go = below_with n (y.0, f y.1) ys lt later
+    by false lt later go = below_with n y (with_listed x f ys) lt go
+
+-- what is listed has such a number
+pub listed_below : (xs : List Carried) (x n : ℕ) → AreBelow n xs → is_some (listed xs x) ≡ true → x < n
+listed_below [] x n h e = absurd cc
+listed_below (y ∷ ys) x n h e =
+    let lt : y.0 < n = h 0 y (omega arith) in
+    by (x == y.0) refl lt (listed_below ys x n (λ k d within. h (suc k) d (omega arith))) e
+  where
+    by : (b : Bool) → (x == y.0) ≡ b → y.0 < n → (is_some (listed ys x) ≡ true → x < n) → is_some (if b then Some y.1 else listed ys x) ≡ true → x < n
+    by true same lt go e = grind (arith, nat_tests)
+    by false differs lt go e = go e
 
 none_listed : (xs : List Carried) (x : ℕ) → All (λ c. c.0 ≢ x) xs → listed xs x ≡ None
 none_listed [] x h = refl

@@ -24,6 +24,9 @@ pub struct Activation<'a> {
 pub struct Emitted {
     pub output: Vec<u8>,
     pub effects: Vec<Effect>,
+    /// How many statements the activation that ended last counted. No clause speaks of it: it is there for guessing how long
+    /// the next activation of the process takes.
+    pub counted: u32,
 }
 
 impl Emitted {
@@ -35,6 +38,7 @@ impl Emitted {
         Emitted {
             output: Vec::new(alloc),
             effects: Vec::new(alloc),
+            counted: 0,
         }
     }
 

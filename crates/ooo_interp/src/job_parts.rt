@@ -1,4 +1,4 @@
-ghost use Rattle.std.specs.Prelude.{◌≡◌, [], slice_get, slice_set, unwrap_or, None, Some, MatchOption, IsSomeAnd, is_some};
+ghost use Rattle.std.specs.Prelude.{◌≡◌, ◌<◌, ℕ, [], slice_get, slice_set, unwrap_or, None, Some, MatchOption, All, IsSomeAnd, is_some};
 ghost use Rattle.ooo_interp.specs.Carrying.{IsAscending, listed, put_in, with_listed};
 
 use crate::parts::Lent;
@@ -23,6 +23,7 @@ pub struct JobParts {
     pub first: u32,
     ghost owned_ascending: { IsAscending owned.items },
     ghost copied_ascending: { IsAscending copied.items },
+    ghost owned_below: { All (λ c. c.0 < count) owned.items },
 }
 
 impl Lent for JobParts {
@@ -46,12 +47,12 @@ impl Lent for JobParts {
 
     #[inline(always)]
     fn cells(&self, variable: u32) -> &[Value] {
-        if variable as usize >= self.count {
-            return &[];
-        }
         let at = variable.wrapping_sub(self.first) as usize;
         if at < self.owned.len() && self.owned[at].0 == variable {
             return self.owned[at].1.as_slice();
+        }
+        if variable as usize >= self.count {
+            return &[];
         }
         cells_in_either(&self.owned, &self.copied, variable)
     }
@@ -87,10 +88,10 @@ impl Lent for JobParts {
 
     #[inline(always)]
     fn set_cell(&mut self, variable: u32, at: usize, v: Value) {
-        if variable as usize >= self.count {
+        if set_in(&mut self.owned, self.first, variable, at, &v) {
             return;
         }
-        if !set_in(&mut self.owned, self.first, variable, at, &v) {
+        if (variable as usize) < self.count {
             set_by_search(&mut self.copied, variable, at, &v);
         }
     }
@@ -159,6 +160,8 @@ fn set_in(carried: &mut Vec<(u32, Cells)>, first: u32, variable: u32, at: usize,
     requires { IsAscending carried.old.items }
     ensures found { result ≡ is_some (listed carried.old.items variable) }
     ensures ascending { IsAscending carried.new.items }
+    ensures below { (n : ℕ) →
+        All (λ c. c.0 < n) carried.old.items → All (λ c. c.0 < n) carried.new.items }
     ensures listed { carried.new.items
         ≡ with_listed variable (λ cells. slice_set cells at v.now) carried.old.items }
 {
@@ -176,6 +179,8 @@ fn set_by_search(carried: &mut Vec<(u32, Cells)>, variable: u32, at: usize, v: &
     requires { IsAscending carried.old.items }
     ensures found { result ≡ is_some (listed carried.old.items variable) }
     ensures ascending { IsAscending carried.new.items }
+    ensures below { (n : ℕ) →
+        All (λ c. c.0 < n) carried.old.items → All (λ c. c.0 < n) carried.new.items }
     ensures listed { carried.new.items
         ≡ with_listed variable (λ cells. slice_set cells at v.now) carried.old.items }
 {

@@ -58,7 +58,10 @@ pub fn run_nodes<'a, L: Lent>(
             &mut left,
         )? {
             Turn::Goes(to) => number = to,
-            Turn::Over(halt) => return Ok(halt),
+            Turn::Over(halt) => {
+                emitted.counted = statements.saturating_sub(left.statements);
+                return Ok(halt);
+            }
         }
     }
 }

@@ -43,15 +43,14 @@ pub fn run_segment(alloc: Global, job: Job) -> Result<Done, AllocError>
     } = job;
     let ports = ports_of(alloc, seen.as_slice())?;
     let fifos = SeenFifos::new(seen);
-    let first = first_of(owned.as_slice());
     let mut parts = JobParts {
+        first: first_of(owned.as_slice()),
         slots,
         owned,
         copied,
         ports,
         fifos,
         count: design.variables.len(),
-        first,
     };
     let start = Start {
         process,

@@ -1,7 +1,7 @@
 -- Where the variable stands it has other elements.
-use Rattle.std.proofs.Common.{slice_set, sym, ap, ◌∙◌}
+use Rattle.std.proofs.Common.{slice_set, sym, ap, subst, ◌∙◌}
 use Rattle.std.specs.Prelude.{is_some}
-use Rattle.ooo_interp.proofs.Listed.{StandsAt, set_listed, stands_listed, unlisted}
+use Rattle.ooo_interp.proofs.Listed.{AreBelow, StandsAt, set_listed, stands_listed, still_below, unlisted}
 use Rattle.ooo_interp.proofs.job_parts.set_by_search.Goals as goal
 
 pub returns-in-Some-clause-listed : goal.returns-in-Some-clause-listed
@@ -16,3 +16,7 @@ pub returns-in-Some-clause-found : goal.returns-in-Some-clause-found
 returns-in-Some-clause-found c =
     let stands : StandsAt c.args.carried.now.items c.args.variable c.in-Some.place = rw c.deref.ensures.value at c.in-Some.ensures in
     sym (ap is_some (stands_listed c.args.carried.now.items c.args.variable c.in-Some.place c.index_mut.result.now c.requires stands c.index_mut.ensures.value))
+
+pub returns-in-Some-clause-below : goal.returns-in-Some-clause-below
+returns-in-Some-clause-below c = λ n h.
+    subst (AreBelow n) (sym (returns-in-Some-clause-listed c)) (still_below c.args.carried.now.items c.args.variable (λ cells. slice_set cells c.args.at c.args.v.now) n h)

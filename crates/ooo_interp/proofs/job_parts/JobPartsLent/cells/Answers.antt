@@ -1,8 +1,8 @@
 -- The elements that are carried of a variable stand in its place.
 use Rattle.std.proofs.Common.{◌≡◌, Some, sym, ap, [], ◌∙◌, arith}
-use Rattle.std.specs.Prelude.{unwrap_or}
+use Rattle.std.specs.Prelude.{is_some, unwrap_or}
 use Rattle.ooo_interp.specs.Carrying.{listed}
-use Rattle.ooo_interp.proofs.Listed.{found_at, stands_listed}
+use Rattle.ooo_interp.proofs.Listed.{found_at, listed_below, stands_listed}
 use Rattle.ooo_interp.proofs.Placed.{cells_below, cells_past}
 use Rattle.ooo_interp.proofs.job_parts.JobPartsLent.cells.Goals as goal
 
@@ -13,7 +13,8 @@ pub returns-then-index-variable : goal.returns-then-index-variable
 returns-then-index-variable c =
     let stands = found_at c.args.self.now.owned.items c.args.variable _ c.index.result.now (omega (arith, c.len.ensures, c.if-at-len.true)) c.index.ensures c.if-index-variable.true in
     let there : listed c.args.self.now.owned.items c.args.variable ≡ Some c.index-then-index-variable.result.now.1 = stands_listed c.args.self.now.owned.items c.args.variable _ c.index-then-index-variable.result.now c.args.self.now.owned_ascending stands c.index-then-index-variable.ensures in
-    c.as_slice.ensures ∙ sym (cells_below c.args.self.now.count c.args.self.now.owned.items c.args.self.now.copied.items c.args.variable (omega arith) ∙ ap (λ o. unwrap_or o (unwrap_or (listed c.args.self.now.copied.items c.args.variable) [])) there)
+    let lt = listed_below c.args.self.now.owned.items c.args.variable c.args.self.now.count c.args.self.now.owned_below (ap is_some there) in
+    c.as_slice.ensures ∙ sym (cells_below c.args.self.now.count c.args.self.now.owned.items c.args.self.now.copied.items c.args.variable lt ∙ ap (λ o. unwrap_or o (unwrap_or (listed c.args.self.now.copied.items c.args.variable) [])) there)
 
 pub returns : goal.returns
 returns c =
