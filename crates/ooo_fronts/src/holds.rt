@@ -116,6 +116,7 @@ fn holds_ahead(tables: &Tables, reaches: &Reaches, g: Front, p: u32, f: Front) -
 // The same, by counting. The one leads to nothing before its own stamp: so another at its stamp is held up only by segments to
 // which it leads with no delay. A later one only by segments to which it leads and that meet f's, so it goes over whichever of
 // these and those are fewer.
+#[inline(never)]
 fn count_holds(tables: &Tables, reaches: &Reaches, g: Front, p: u32, f: Front) -> u32
     requires aligned { AreAligned tables.now }
     requires reaches { AreReaches tables.now reaches.now }
