@@ -7,6 +7,7 @@
 
 mod board_box;
 mod driving;
+mod lengths;
 mod turn;
 mod view;
 mod yard;

@@ -7,6 +7,7 @@ ghost use Rattle.ooo_workers.specs.Passes.{Acted, Closes, EndIs, GaveAndTook, Ha
 ghost use Rattle.ooo_workers.specs.Rule.{KeepsJob, May, noted, seized, stepped};
 
 use crate::board_box::BoardBox;
+use crate::lengths::Lengths;
 use crate::turn::{Turn, Worked};
 use crate::view::{Cut, Free, FreeAfter, Glue, Law, Note, Origin, Pass, Place, Try, View};
 use atomic_table::{Refused, Table};
@@ -32,6 +33,7 @@ pub struct Yard {
     passes: u32,
     // How many callers sleep, or are about to, until a step is made.
     sleepers: AtomicU64,
+    lengths: Lengths,
     alloc: Global,
     ghost sized: { (table.shared.table_id.words ≡ 1) × (table.shared.table_id.slots ≡ 1) },
     ghost counted: { table.shared.key.passes ≡ passes },
@@ -115,6 +117,7 @@ impl Yard {
             board: Snapshot::of(&board),
             passes,
         };
+        let lengths = Lengths::unknown(alloc, board.holds().len())?;
         let mut slots = Vec::with_capacity(alloc, 1)?;
         slots.push_reserved(Some(BoardBox::new(alloc, board)?));
         let (table, first) = match Table::new(alloc, &[0], slots, &origin) {
@@ -125,6 +128,7 @@ impl Yard {
             table,
             passes,
             sleepers: AtomicU64::new(0),
+            lengths,
             alloc,
         };
         yard.deal(&mut all, first);
@@ -354,6 +358,7 @@ impl Yard {
             self.abandon(rt, pass);
             return Err(AllocError);
         };
+        self.lengths.note(done.process, done.emitted.counted);
         match self.give_and_take(rt, pass, done) {
             Ok(had) => Ok(had),
             Err(_) => {
@@ -481,7 +486,7 @@ impl Yard {
         };
         match board.dispatch(self.alloc, p) {
             Ok(job) => {
-                let call = self.call_after(&board);
+                let call = self.call_beside(&board, p);
                 self.free_after(place, board, Step::Dispatch(p), word);
                 self.wake(call);
                 Ok(Some(Turn::Job(job)))
@@ -531,6 +536,16 @@ impl Yard {
             Call::One
         } else if board.is_lost() || board.is_over() {
             Call::All
+        } else {
+            Call::Nobody
+        }
+    }
+
+    // Who is to be woken once the board is put back, while a job of process `p` is run: nobody, where that is likely to be
+    // handed in before anybody woke up.
+    fn call_beside(&self, board: &Board, p: u32) -> Call {
+        if self.lengths.is_long(p) {
+            self.call_after(board)
         } else {
             Call::Nobody
         }
