@@ -4,3 +4,4 @@ pub mod Running
 pub mod Ports
 pub mod Carrying
 pub mod Jobs
+pub mod Parts

@@ -1,5 +1,6 @@
 ghost use Rattle.std.specs.Prelude.{◌≡◌, ◌<◌, ℕ, [], slice_get, slice_set, unwrap_or, None, Some, MatchOption, All, IsSomeAnd, is_some};
-ghost use Rattle.ooo_interp.specs.Carrying.{IsAscending, listed, put_in, with_listed};
+ghost use Rattle.ooo_code.specs.Expressions.{cells_of};
+ghost use Rattle.ooo_interp.specs.Carrying.{IsAscending, all_cells, listed, put_in, with_listed};
 
 use crate::parts::Lent;
 use crate::ports::Ports;
@@ -51,10 +52,7 @@ impl Lent for JobParts {
         if at < self.owned.len() && self.owned[at].0 == variable {
             return self.owned[at].1.as_slice();
         }
-        if variable as usize >= self.count {
-            return &[];
-        }
-        cells_in_either(&self.owned, &self.copied, variable)
+        self.cells_elsewhere(variable)
     }
 
     fn signal(&self, channel: u32) -> (Value, bool) {
@@ -105,13 +103,27 @@ impl Lent for JobParts {
     }
 }
 
+impl JobParts {
+    // The elements of a variable, wherever it stands. It is one short call, since it stands at each place where a variable is
+    // read.
+    #[inline(never)]
+    fn cells_elsewhere(&self, variable: u32) -> &[Value]
+        ensures { result.now ≡ cells_of
+            (all_cells self.now.count self.now.owned.items self.now.copied.items) variable }
+    {
+        if variable as usize >= self.count {
+            return &[];
+        }
+        cells_in_either(&self.owned, &self.copied, variable)
+    }
+}
+
 // The number of the first variable that is carried.
 pub(crate) fn first_of(carried: &[(u32, Cells)]) -> u32 {
     if carried.is_empty() { 0 } else { carried[0].0 }
 }
 
 // The elements of a variable, where it is carried, and of the first list, where it stands in both.
-#[inline(never)]
 fn cells_in_either<'a>(
     owned: &'a [(u32, Cells)],
     copied: &'a [(u32, Cells)],

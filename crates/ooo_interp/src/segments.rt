@@ -1,7 +1,9 @@
-ghost use Rattle.std.specs.Prelude.{◌≡◌, IfOk, All};
+ghost use Rattle.std.specs.Prelude.{◌≡◌, ◌<◌, IfOk, All};
 ghost use Rattle.ooo_code.specs.Outcomes.{View};
 ghost use Rattle.ooo_interp.specs.Acting.{job_end, wait_of};
+ghost use Rattle.ooo_interp.specs.Carrying.{IsAscending};
 ghost use Rattle.ooo_interp.specs.Jobs.{Fits, IsFew, IsKeptBy, IsOf, IsPartOf, SeenAscend, done_on, job_on, number_seen};
+ghost use Rattle.ooo_interp.specs.Parts.{AreLent};
 ghost use Rattle.ooo_interp.specs.Ports.{ValuesOf, all_shown, channel_of, shown, values_in};
 
 use crate::doing::{Emitted, Halt, Pause};
@@ -13,7 +15,8 @@ use crate::ports::Ports;
 use crate::processes::{Start, run_process};
 use crate::seen_fifos::SeenFifos;
 use ooo_code::law::{changes_what_is_touched, reads_what_is_touched};
-use ooo_code::{Frame, JobEnd, Seen, WaitOn};
+use ooo_code::{Cells, Frame, JobEnd, Seen, WaitOn};
+use ooo_value::Value;
 use sqlite_items::Items;
 use std::alloc::{AllocError, Global};
 
@@ -22,6 +25,7 @@ use std::alloc::{AllocError, Global};
 /// # Errors
 ///
 /// Only where memory runs out; the job is then given up.
+#[inline(never)]
 pub fn run_segment(alloc: Global, job: Job) -> Result<Done, AllocError>
     requires { Fits job }
     ensures does { IfOk result
@@ -41,17 +45,7 @@ pub fn run_segment(alloc: Global, job: Job) -> Result<Done, AllocError>
         copied,
         seen,
     } = job;
-    let ports = ports_of(alloc, seen.as_slice())?;
-    let fifos = SeenFifos::new(seen);
-    let mut parts = JobParts {
-        first: first_of(owned.as_slice()),
-        slots,
-        owned,
-        copied,
-        ports,
-        fifos,
-        count: design.variables.len(),
-    };
+    let mut parts = parts_of(alloc, design.variables.len(), slots, owned, copied, seen)?;
     let start = Start {
         process,
         entry,
@@ -72,6 +66,33 @@ pub fn run_segment(alloc: Global, job: Job) -> Result<Done, AllocError>
         owned: parts.owned,
         emitted,
         end,
+    })
+}
+
+// The parts that an activation is lent, of a design with so many variables.
+fn parts_of(
+    alloc: Global,
+    count: usize,
+    slots: Items<Value>,
+    owned: Vec<(u32, Cells)>,
+    copied: Vec<(u32, Cells)>,
+    seen: Vec<Seen>,
+) -> Result<JobParts, AllocError>
+    requires owned { IsAscending owned.items × All (λ c. c.0 < count) owned.items }
+    requires copied { IsAscending copied.items }
+    requires seen { SeenAscend seen.items × All IsFew seen.items }
+    ensures { IfOk result (AreLent count slots owned.items copied.items seen.items) }
+{
+    let ports = ports_of(alloc, seen.as_slice())?;
+    let fifos = SeenFifos::new(seen);
+    Ok(JobParts {
+        first: first_of(owned.as_slice()),
+        slots,
+        owned,
+        copied,
+        ports,
+        fifos,
+        count,
     })
 }
 

@@ -3,11 +3,8 @@ use Rattle.std.proofs.Common.{◌≡◌, Some, sym, ap, [], ◌∙◌, arith}
 use Rattle.std.specs.Prelude.{is_some, unwrap_or}
 use Rattle.ooo_interp.specs.Carrying.{listed}
 use Rattle.ooo_interp.proofs.Listed.{found_at, listed_below, stands_listed}
-use Rattle.ooo_interp.proofs.Placed.{cells_below, cells_past}
+use Rattle.ooo_interp.proofs.Placed.{cells_below}
 use Rattle.ooo_interp.proofs.job_parts.JobPartsLent.cells.Goals as goal
-
-pub returns-then-variable-self : goal.returns-then-variable-self
-returns-then-variable-self c = sym (cells_past c.args.self.now.count c.args.self.now.owned.items c.args.self.now.copied.items c.args.variable c.if-variable-self.true)
 
 pub returns-then-index-variable : goal.returns-then-index-variable
 returns-then-index-variable c =
@@ -15,10 +12,3 @@ returns-then-index-variable c =
     let there : listed c.args.self.now.owned.items c.args.variable ≡ Some c.index-then-index-variable.result.now.1 = stands_listed c.args.self.now.owned.items c.args.variable _ c.index-then-index-variable.result.now c.args.self.now.owned_ascending stands c.index-then-index-variable.ensures in
     let lt = listed_below c.args.self.now.owned.items c.args.variable c.args.self.now.count c.args.self.now.owned_below (ap is_some there) in
     c.as_slice.ensures ∙ sym (cells_below c.args.self.now.count c.args.self.now.owned.items c.args.self.now.copied.items c.args.variable lt ∙ ap (λ o. unwrap_or o (unwrap_or (listed c.args.self.now.copied.items c.args.variable) [])) there)
-
-pub returns : goal.returns
-returns c =
-    c.cells_in_either.ensures
-    ∙ ap (λ xs. unwrap_or (listed xs c.args.variable) (unwrap_or (listed c.deref-2.result.now c.args.variable) [])) c.deref.ensures.value
-    ∙ ap (λ xs. unwrap_or (listed c.args.self.now.owned.items c.args.variable) (unwrap_or (listed xs c.args.variable) [])) c.deref-2.ensures.value
-    ∙ sym (cells_below c.args.self.now.count c.args.self.now.owned.items c.args.self.now.copied.items c.args.variable (omega arith))
