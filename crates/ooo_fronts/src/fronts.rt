@@ -302,7 +302,8 @@ fn leave(tables: &Tables, reaches: &Reaches, fronts: &[Option<Front>], counts: &
     counts[p as usize] = 0;
 }
 
-// Takes off the count of process q what the front g of process p holds it up by, if that is another process.
+// Takes off the count of process q what the front g of process p holds it up by, if that is another process. Where nothing
+// holds q up, that is nothing.
 fn lower(
     tables: &Tables,
     reaches: &Reaches,
@@ -325,9 +326,13 @@ fn lower(
     if q == p {
         return;
     }
-    if let Some(f) = front_at(fronts, q) {
-        counts[q as usize] -= holds_of(tables, reaches, g, q, f);
+    let Some(f) = front_at(fronts, q) else {
+        return;
+    };
+    if counts[q as usize] == 0 {
+        return;
     }
+    counts[q as usize] -= holds_of(tables, reaches, g, q, f);
 }
 
 // Mends the counts for the front of process p to enter: those that it can hold up are held up by so much more, and p itself

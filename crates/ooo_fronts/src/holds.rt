@@ -1,8 +1,9 @@
-ghost use Rattle.std.specs.Prelude.{◌≡◌, ◌<◌, ◌≤◌, is_some, length};
+ghost use Rattle.std.specs.Prelude.{◌≡◌, ◌<◌, ◌≤◌, ◌&&◌, false, is_some, length, nat_lt};
+ghost use Rattle.ooo_conflicts.specs.Kinds.{is_clash, kind_at};
 ghost use Rattle.ooo_fronts.specs.declared.front.Front.{Front as FrontSpec};
 ghost use Rattle.ooo_fronts.specs.Fronts.{AreAligned, IsFit, IsFitOfItself, process_in};
 ghost use Rattle.ooo_fronts.specs.Holds.{clashes_at, hold_at, holds_of, maybe_holds_of, HoldsByNoOther, IsFirstBy};
-ghost use Rattle.ooo_fronts.specs.Reaching.{AreReaches, IsListOf, IsMetBy, Meets};
+ghost use Rattle.ooo_fronts.specs.Reaching.{AreReaches, IsListOf, IsMetBy, LeadsAtOnce, Meets};
 
 use crate::front::Front;
 use crate::reaching::Reaches;
@@ -28,10 +29,22 @@ fn clashes_at(tables: &Tables, b: u32, at: Stamp, p: u32, f: Front) -> bool
     if at.is_before(f.stamp) {
         tables.clash.clash(b, f.segment, true)
     } else if at == f.stamp {
-        process_of(tables, b) < p && tables.clash.clash(b, f.segment, false)
+        clashes_below(tables, b, p, f)
     } else {
         false
     }
+}
+
+// Whether segment b at the stamp of the front f of process p clashes with it: by a lower process.
+#[inline(always)]
+fn clashes_below(tables: &Tables, b: u32, p: u32, f: Front) -> bool
+    requires aligned { AreAligned tables.now }
+    requires segment { b < length tables.now.graph.segments }
+    requires front { f.segment < length tables.now.graph.segments }
+    ensures { result ≡ (nat_lt (process_in tables.now b) p
+        && is_clash (kind_at tables.now.clash b f.segment) false) }
+{
+    process_of(tables, b) < p && tables.clash.clash(b, f.segment, false)
 }
 
 // The stamp at which the front g leads to segment b, where that isn't of process p and clashes there with the front f of p.
@@ -126,7 +139,7 @@ fn count_holds(tables: &Tables, reaches: &Reaches, g: Front, p: u32, f: Front) -
     ensures few { result ≤ length tables.now.graph.segments }
 {
     if f.stamp == g.stamp {
-        return count_among(tables, reaches.at_once(g.segment), g, p, f);
+        return count_at_once(tables, reaches.at_once(g.segment), g, p, f);
     }
     let leads = reaches.leads(g.segment);
     let meeting = reaches.meeting(f.segment);
@@ -135,6 +148,35 @@ fn count_holds(tables: &Tables, reaches: &Reaches, g: Front, p: u32, f: Front) -
     } else {
         count_meeting(tables, meeting, g, p, f)
     }
+}
+
+// The same at one stamp, of the segments to which the front g leads with no delay.
+fn count_at_once(tables: &Tables, segments: &[u32], g: Front, p: u32, f: Front) -> u32
+    requires aligned { AreAligned tables.now }
+    requires same { f.stamp ≡ g.stamp }
+    requires all { IsListOf (LeadsAtOnce tables.now g.segment) segments.now }
+    requires front { f.segment < length tables.now.graph.segments }
+    ensures { result ≡ holds_of tables.now g p f }
+{
+    let mut count = 0;
+    for b in segments {
+        if holds_at_once(tables, g, p, f, *b) {
+            count += 1;
+        }
+    }
+    count
+}
+
+// Whether the front g holds the front f of process p up at one stamp, by segment b, to which it leads with no delay.
+#[inline(always)]
+fn holds_at_once(tables: &Tables, _g: Front, p: u32, f: Front, b: u32) -> bool
+    requires aligned { AreAligned tables.now }
+    requires same { f.stamp ≡ _g.stamp }
+    requires leads { LeadsAtOnce tables.now _g.segment b }
+    requires front { f.segment < length tables.now.graph.segments }
+    ensures { result ≡ is_some (hold_at tables.now _g p f b) }
+{
+    clashes_below(tables, b, p, f)
 }
 
 // By how many of these segments, which are all that meet f's, the front g holds the front f of process p up.

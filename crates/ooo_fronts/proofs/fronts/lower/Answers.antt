@@ -20,8 +20,8 @@ overflow_sub-counts c =
     let is = c.holds_of.ensures.exact in
     omega (arith, changed, was, is)
 
-pub returns-in-Some-clause-held : goal.returns-in-Some-clause-held
-returns-in-Some-clause-held c = λ ne.
+pub returns-clause-held : goal.returns-clause-held
+returns-clause-held c = λ ne.
     let a = c.args in
     let e = sym c.front_at.ensures ∙ c.in-Some.is in
     let changed = others_some a.tables.now a.fronts.now a.p a.g (at_front a.fronts.now a.p a.g c.requires.own) c.requires.own a.q c.in-Some.f ne e in
@@ -30,6 +30,15 @@ returns-in-Some-clause-held c = λ ne.
     let lt : a.q < length a.counts.now = let x = at_front a.fronts.now a.q c.in-Some.f e in let y = c.requires.count in omega (arith, x, y) in
     let here = get_or-set_same a.counts.now a.q (get_or a.counts.now a.q 0 - c.holds_of.result) 0 lt in
     omega (arith, changed, was, is, here)
+
+pub returns-then-counts-q-eq0-clause-held : goal.returns-then-counts-q-eq0-clause-held
+returns-then-counts-q-eq0-clause-held c = λ ne.
+    let a = c.args in
+    let e = sym c.front_at.ensures ∙ c.in-Some.is in
+    let changed = others_some a.tables.now a.fronts.now a.p a.g (at_front a.fronts.now a.p a.g c.requires.own) c.requires.own a.q c.in-Some.f ne e in
+    let was = c.requires.held ne in
+    let none = c.if-counts-q-eq0.true in
+    omega (arith, changed, was, none)
 
 pub returns-in_default-clause-held : goal.returns-in_default-clause-held
 returns-in_default-clause-held c = λ ne.

@@ -4,24 +4,25 @@ use Rattle.ooo_fronts.specs.Reaching.{IsListOf, IsMetBy, LeadsAtOnce, LeadsTo}
 use Rattle.ooo_fronts.proofs.Counted.{few_hold}
 use Rattle.ooo_fronts.proofs.Holding.{leads_are_all}
 use Rattle.ooo_fronts.proofs.Orders.{yes_same}
-use Rattle.ooo_fronts.proofs.Timing.{at_once_are_all}
 use Rattle.ooo_fronts.proofs.holds.count_holds.Goals as goal
 
-pub count_among-requires-clause-all : goal.count_among-requires-clause-all
-count_among-requires-clause-all c =
+pub count_at_once-requires-clause-same : goal.count_at_once-requires-clause-same
+count_at_once-requires-clause-same c = yes_same c.args.f.stamp c.args.g.stamp (sym c.eq.ensures ∙ c.if-eq.true)
+
+pub count_at_once-requires-clause-all : goal.count_at_once-requires-clause-all
+count_at_once-requires-clause-all c =
     let a = c.args in
     let t = a.tables.now in
-    let list = subst (IsListOf (LeadsAtOnce t a.g.segment)) (sym c.at_once.ensures) (c.requires.reaches.at_once.each a.g.segment c.requires.fit.segment) in
-    at_once_are_all t a.g a.p a.f c.at_once.result.now (yes_same a.f.stamp a.g.stamp (sym c.eq.ensures ∙ c.if-eq.true)) list
+    subst (IsListOf (LeadsAtOnce t a.g.segment)) (sym c.at_once.ensures) (c.requires.reaches.at_once.each a.g.segment c.requires.fit.segment)
 
 pub returns-then-eq-clause-few : goal.returns-then-eq-clause-few
 returns-then-eq-clause-few c =
     let few = few_hold c.args.tables.now c.args.g c.args.p c.args.f in
-    let is = c.count_among.ensures in
+    let is = c.count_at_once.ensures in
     omega (arith, few, is)
 
-pub count_among-requires-then-leads-meeting-clause-all : goal.count_among-requires-then-leads-meeting-clause-all
-count_among-requires-then-leads-meeting-clause-all c =
+pub count_among-requires-clause-all : goal.count_among-requires-clause-all
+count_among-requires-clause-all c =
     let a = c.args in
     let t = a.tables.now in
     let list = subst (IsListOf (LeadsTo t a.g.segment)) (sym c.leads-leads.ensures) (c.requires.reaches.leads.each a.g.segment c.requires.fit.segment) in
@@ -36,7 +37,7 @@ count_meeting-requires-clause-all c =
 pub returns-then-leads-meeting-clause-few : goal.returns-then-leads-meeting-clause-few
 returns-then-leads-meeting-clause-few c =
     let few = few_hold c.args.tables.now c.args.g c.args.p c.args.f in
-    let is = c.count_among-then-leads-meeting.ensures in
+    let is = c.count_among.ensures in
     omega (arith, few, is)
 
 pub returns-else-leads-meeting-clause-few : goal.returns-else-leads-meeting-clause-few
