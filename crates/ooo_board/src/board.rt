@@ -20,6 +20,7 @@ ghost use Rattle.ooo_board.specs.Starting.{AreInRange, HaveNumbers};
 use crate::cores::Core;
 use crate::laws::laws;
 use crate::links::Links;
+use crate::spares::Spares;
 use ooo_code::{Design, Limits};
 use ooo_dispatch::Step;
 use ooo_fronts::{Choice, Front, Hold, State};
@@ -42,6 +43,7 @@ pub struct Board {
     links: Links,
     core: Core,
     schedule: Vec<Step>,
+    spares: Spares,
     // How many jobs are out that weren't abandoned. There is room in the schedule for the end of each.
     running: usize,
     lost: bool,
@@ -94,6 +96,7 @@ impl Board {
         }
         let links = Links::make(alloc, &design, &tables)?;
         let core = Core::make(alloc, &design, &tables, &links, &limits)?;
+        let spares = Spares::make(alloc, core.fronts.len())?;
         Ok(Board {
             design,
             tables,
@@ -101,6 +104,7 @@ impl Board {
             links,
             core,
             schedule: Vec::new(alloc),
+            spares,
             running: 0,
             lost: false,
         })
@@ -217,6 +221,7 @@ impl Board {
             unreachable!()
         };
         self.schedule.reserve(self.running + 2)?;
+        let room = self.spares.take(alloc, p);
         let job = self.core.dispatch(
             alloc,
             &self.design,
@@ -225,6 +230,7 @@ impl Board {
             &self.limits,
             p,
             front,
+            room,
         )?;
         self.schedule.push_reserved(Step::Dispatch(p));
         self.running += 1;
@@ -267,8 +273,10 @@ impl Board {
         if self.core.reserve(&done).is_err() {
             return Err((AllocError, done));
         }
-        self.core
+        let used = self
+            .core
             .commit(&self.tables, &self.links, done, front.stamp);
+        self.spares.keep(p, used);
         self.core.forget_now_and_then();
         self.schedule.push_reserved(Step::Commit(p));
         self.running -= 1;

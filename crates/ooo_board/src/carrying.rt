@@ -1,6 +1,6 @@
 //! Variables that a job carries: those that it may change are moved out and back, the others are copied.
 
-ghost use Rattle.std.specs.Prelude.{◌≡◌, ◌<◌, length, All, IfOk};
+ghost use Rattle.std.specs.Prelude.{◌≡◌, ◌<◌, [], length, All, IfOk};
 ghost use Rattle.ooo_interp.specs.Carrying.{put_in};
 ghost use Rattle.ooo_board.specs.Carrying.{bare, carried_from, taken_from};
 
@@ -30,15 +30,21 @@ pub(crate) fn copies(
     Ok(copied)
 }
 
-/// The numbers, each with no cells yet.
+/// The numbers, each with no cells yet, in this vector.
 ///
 /// # Errors
 ///
 /// Only where memory runs out.
-pub(crate) fn bare(alloc: Global, numbers: &[u32]) -> Result<Vec<(u32, Cells)>, AllocError>
+pub(crate) fn bare(
+    alloc: Global,
+    room: Vec<(u32, Cells)>,
+    numbers: &[u32],
+) -> Result<Vec<(u32, Cells)>, AllocError>
+    requires { room.items ≡ [] }
     ensures { IfOk result (λ owned. owned.items ≡ bare numbers.now) }
 {
-    let mut owned = Vec::with_capacity(alloc, numbers.len())?;
+    let mut owned = room;
+    owned.reserve_exact(numbers.len())?;
     for x in numbers {
         owned.push((*x, Items::new(alloc)))?;
     }
@@ -57,8 +63,8 @@ pub(crate) fn move_out(variables: &mut Vec<Cells>, owned: &mut Vec<(u32, Cells)>
     }
 }
 
-/// Moves cells back to their variables.
-pub(crate) fn move_back(variables: &mut Vec<Cells>, owned: Vec<(u32, Cells)>)
+/// Moves cells back to their variables. What carried them is handed back, with nothing in it.
+pub(crate) fn move_back(variables: &mut Vec<Cells>, owned: Vec<(u32, Cells)>) -> Vec<(u32, Cells)>
     requires { All (λ c. c.0 < length variables.old.items) owned.items }
     ensures { variables.new.items ≡ put_in owned.items variables.old.items }
 {
@@ -66,4 +72,5 @@ pub(crate) fn move_back(variables: &mut Vec<Cells>, owned: Vec<(u32, Cells)>)
     'variables: while let Some((x, cells)) = owned.pop() {
         variables[x as usize] = cells;
     }
+    owned
 }

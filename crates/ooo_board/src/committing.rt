@@ -22,7 +22,7 @@ use crate::carrying::move_back;
 use crate::cores::Core;
 use crate::links::Links;
 use crate::process::{Process, Waiting};
-use ooo_code::{Effect, Frame, JobEnd, SegmentEntry};
+use ooo_code::{Cells, Effect, Frame, JobEnd, SegmentEntry};
 use ooo_fronts::State;
 use ooo_history::Piece;
 use ooo_interp::{Done, Emitted};
@@ -32,8 +32,15 @@ use ooo_value::Value;
 use sqlite_items::Items;
 
 impl Core {
-    /// What a job did is taken in, for which there is room. It takes no memory.
-    pub(crate) fn commit(&mut self, tables: &Tables, links: &Links, done: Done, at: Stamp)
+    /// What a job did is taken in, for which there is room. It takes no memory. What carried the variables is handed back, with
+    /// nothing in it.
+    pub(crate) fn commit(
+        &mut self,
+        tables: &Tables,
+        links: &Links,
+        done: Done,
+        at: Stamp,
+    ) -> Vec<(u32, Cells)>
         requires room { HasRoom self.old done }
         requires may { (design : DesignSpec) × (limits : LimitsSpec) × (steps : List StepSpec)
             × AreLinks design tables.now links.now
@@ -62,7 +69,7 @@ impl Core {
         } = emitted;
         let effects = effects.as_slice();
         self.bank.apply(effects, at);
-        move_back(&mut self.variables, owned);
+        let used = move_back(&mut self.variables, owned);
         let place = Place { stamp: at, process };
         self.cut.note(place, &end, stops(effects));
         print(&mut self.pieces, place, output);
@@ -72,6 +79,7 @@ impl Core {
         self.states[process as usize] = State::Waiting;
         self.refresh(tables, links, process);
         self.wake(tables, links, effects);
+        used
     }
 }
 

@@ -1,6 +1,6 @@
 //! What a board keeps, and what its steps do to that.
 
-ghost use Rattle.std.specs.Prelude.{◌≡◌, ℕ, List, IfOk, OnErr, OnOk};
+ghost use Rattle.std.specs.Prelude.{◌≡◌, ℕ, List, [], IfOk, OnErr, OnOk};
 ghost use Rattle.ooo_code.specs.declared.design.Design.{Design as DesignSpec};
 ghost use Rattle.ooo_code.specs.declared.limits.Limits.{Limits as LimitsSpec};
 ghost use Rattle.ooo_dispatch.specs.declared.step.Step.{Step as StepSpec};
@@ -55,7 +55,7 @@ pub(crate) struct Parts {
 }
 
 impl Core {
-    /// The job of a process at its front is handed out.
+    /// The job of a process at its front is handed out. It carries the variables that it may change in `room`.
     ///
     /// # Errors
     ///
@@ -69,7 +69,9 @@ impl Core {
         limits: &Limits,
         p: u32,
         front: Front,
+        room: Vec<(u32, Cells)>,
     ) -> Result<Job, AllocError>
+        requires room { room.items ≡ [] }
         requires links { AreLinks design.now.value tables.now links.now }
         requires may { (steps : List StepSpec)
             × HasCore design.now.value limits.now tables.now steps self.old
@@ -82,7 +84,7 @@ impl Core {
     {
         crate::law::parts_are_at_hand();
         let shared = Arc::clone(design)?;
-        let mut parts = self.parts(alloc, design, tables, links, front)?;
+        let mut parts = self.parts(alloc, design, tables, links, front, room)?;
         move_out(&mut self.variables, &mut parts.owned);
         self.states[p as usize] = State::Running;
         let process = &mut self.processes[p as usize];
@@ -109,7 +111,9 @@ impl Core {
         tables: &Tables,
         links: &Links,
         front: Front,
+        room: Vec<(u32, Cells)>,
     ) -> Result<Parts, AllocError>
+        requires room { room.items ≡ [] }
         requires links { AreLinks design.now tables.now links.now }
         requires may { (limits : LimitsSpec) × (steps : List StepSpec) × (p : ℕ)
             × HasCore design.now limits tables.now steps self.now
@@ -122,7 +126,7 @@ impl Core {
         crate::law::parts_are_at_hand();
         let g = front.segment as usize;
         let written = tables.access.as_slice()[g].written.as_slice();
-        let owned = bare(alloc, written)?;
+        let owned = bare(alloc, room, written)?;
         let read = links.only_read[g].as_slice();
         let copied = copies(alloc, self.variables.as_slice(), read)?;
         let watched = links.watched[g].as_slice();

@@ -17,6 +17,7 @@ mod laws;
 mod links;
 mod process;
 mod seeing;
+mod spares;
 mod starting;
 mod waking;
 

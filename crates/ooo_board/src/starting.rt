@@ -22,6 +22,10 @@ use ooo_value::{BoundVariable, Kind, Value};
 use sqlite_items::Items;
 use std::alloc::{AllocError, Global};
 
+// Room for so many values lies between those of one process or variable and what follows them in memory: as much as two
+// lines of a cache hold. Workers who write into one line wait for each other.
+const GAP: usize = 8;
+
 impl Core {
     /// What a board keeps of a design with its tables as it starts: nothing was done.
     ///
@@ -83,8 +87,9 @@ fn first_processes(
 fn first_process(alloc: Global, segment: u32, process: &Proc) -> Result<Process, AllocError>
     ensures { IfOk result (IsFirst segment process.now) }
 {
+    let slots = set_apart(zeros(alloc, process.slots.as_slice())?)?;
     Ok(Process {
-        slots: Items::from_vec(zeros(alloc, process.slots.as_slice())?),
+        slots: Items::from_vec(slots),
         waiting: Some(first_wait(alloc, segment, process)?),
         activations: 0,
     })
@@ -95,6 +100,15 @@ fn zeros(alloc: Global, kinds: &[Kind]) -> Result<Vec<Value>, AllocError>
     ensures { IfOk result (λ values. values.items ≡ zeros_of kinds.now) }
 {
     kinds.iter().map(|kind| kind.zero()).collect(alloc)
+}
+
+// The same values, with room behind them.
+fn set_apart(values: Vec<Value>) -> Result<Vec<Value>, AllocError>
+    ensures { IfOk result (λ apart. apart.items ≡ values.items) }
+{
+    let mut apart = values;
+    apart.reserve_exact(GAP)?;
+    Ok(apart)
 }
 
 // How a process waits as it starts, with its first segment: for time zero where it is initialized, and else for its static
@@ -142,13 +156,13 @@ fn first_front(process: &Process) -> Option<Front>
     })
 }
 
-// Each variable with its start value.
+// Each variable with its start value, with room behind its cells.
 fn first_variables(alloc: Global, bound: &[BoundVariable]) -> Result<Vec<Cells>, AllocError>
     ensures { IfOk result (λ made. made.items ≡ first_cells bound.now) }
 {
     let mut made = Vec::with_capacity(alloc, bound.len())?;
     for x in bound {
-        let cells = vec![in alloc; x.start; x.length as usize]?;
+        let cells = set_apart(vec![in alloc; x.start; x.length as usize]?)?;
         made.push(Items::from_vec(cells))?;
     }
     Ok(made)

@@ -31,8 +31,8 @@ reserve-requires c =
     let gives : Gives (rules b) (state b) c.args.done = subst (λ x. Gives (rules x) (state x) c.args.done) (sym c.self.view_is) c.requires in
     (b.design, b.limits, b.tables, b.schedule, c.self.invariant.has, gives)
 
-pub commit-requires : goal.commit-requires
-commit-requires c =
+pub commit-used-requires : goal.commit-used-requires
+commit-used-requires c =
     let i = c.self.inside in
     let b = view_of i.design.value i.limits i.tables i.schedule in
     let gives : Gives (rules b) (state b) c.args.done = subst (λ x. Gives (rules x) (state x) c.args.done) (sym c.self.view_is) c.requires in
@@ -47,7 +47,7 @@ forget_now_and_then-requires c =
     let gives : Gives (rules b) (state b) c.args.done = subst (λ x. Gives (rules x) (state x) c.args.done) (sym c.self.view_is) c.requires in
     let has = c.reserve.ensures.kept b.design b.limits b.tables b.schedule c.self.invariant.has in
     let take : MayTakeIn b.design b.limits b.tables b.schedule c.reserve.new.self c.args.done c.in-Some.front.stamp = record { has = has; gives = gives; stamp = at_stamp b i.core c.self.invariant.has c.laws.ensures c.args.done gives c.in-Some.front (sym c.in-Some.ensures) } in
-    let n = (c.commit.ensures b.design b.limits b.schedule c.self.invariant.links_are take).has_states.counted in
+    let n = (c.commit-used.ensures b.design b.limits b.schedule c.self.invariant.links_are take).has_states.counted in
     let within = job_within b i.core c.self.invariant.has c.laws.ensures c.args.done.process (gives_some b i.core c.self.invariant.has c.laws.ensures c.args.done gives) in
     omega (arith, n, within)
 
@@ -85,7 +85,7 @@ invariant_of-self-2 c =
     let whole = again b.design b.limits b.tables i.links i.core c.reserve.new.self i.schedule i.running i.lost c.self.invariant has in
     let some = gives_some b i.core c.self.invariant.has c.laws.ensures c.args.done gives in
     ended b i.links c.reserve.new.self c.forget_now_and_then.new.self i.schedule c.push_reserved.new.self i.running i.lost i.lost (Commit c.args.done.process) c.args.done.process whole refl c.laws.ensures some some
-    (c.forget_now_and_then.ensures.kept b.design b.limits b.tables (after_step (rules b) (state b) (Commit c.args.done.process)) (c.commit.ensures b.design b.limits b.schedule c.self.invariant.links_are take))
+    (c.forget_now_and_then.ensures.kept b.design b.limits b.tables (after_step (rules b) (state b) (Commit c.args.done.process)) (c.commit-used.ensures b.design b.limits b.schedule c.self.invariant.links_are take))
     (others_back (rules b) (state b) c.args.done.process gives.job gives.out) (none_back (rules b) (state b) c.args.done.process gives.job gives.out)
     c.push_reserved.ensures.items c.push_reserved.ensures.len c.push_reserved.ensures.capacity c.self.invariant.is_lost
 

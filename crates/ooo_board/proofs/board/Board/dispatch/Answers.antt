@@ -42,7 +42,7 @@ dispatch-requires c =
     let b = view_of i.design.value i.limits i.tables i.schedule in
     let may : MayBeDispatched b c.args.p = subst (λ x. MayBeDispatched x c.args.p) (sym c.self.view_is) c.requires in
     let own = sym c.in-Some.ensures in
-    record { links = c.self.invariant.links_are; may = (b.schedule, c.self.invariant.has, at_front b i.core c.self.invariant.has c.laws.ensures c.args.p may c.in-Some.front own) }
+    record { room = c.take-room.ensures; links = c.self.invariant.links_are; may = (b.schedule, c.self.invariant.has, at_front b i.core c.self.invariant.has c.laws.ensures c.args.p may c.in-Some.front own) }
 
 pub push_reserved-requires : goal.push_reserved-requires
 push_reserved-requires c = let more = c.in_ok-reserve.ensures.ok in omega (arith, more)
