@@ -28,6 +28,7 @@ use Rattle.ooo_workers.specs.contracts.yard.Yard as yard
 use Rattle.ooo_board.specs.contracts.board.Board.TheInside as inside
 use Rattle.ooo_board.proofs.cores.Core.TheSendSync.{the_field_send as of_core}
 use Rattle.ooo_board.proofs.links.Links.TheSendSync.{the_field_send as of_links}
+use Rattle.ooo_board.proofs.spares.Spares.TheSendSync.{the_field_send as of_spares}
 
 boxed_send : (h : RattleType) → IsSend h → IsSend (boxed.the_row h)
 boxed_send h s = search (sendable, crosses) depth 60
@@ -75,7 +76,7 @@ limits_here : IsSend (limits.the_field).row
 limits_here = search sendable depth 60
 
 inside_send : IsSend inside.the_row
-inside_send = search (sendable, crosses, design_send, design_sync, of_tables, of_core, of_links, limits_here) depth 100
+inside_send = search (sendable, crosses, design_send, design_sync, of_tables, of_core, of_links, of_spares, limits_here) depth 100
 
 pub board_send : IsSend board.the_row
 board_send = view_send inside.the_row _ _ _ _ inside_send

@@ -47,6 +47,15 @@ enum Call {
     All,
 }
 
+// Which jobs a caller is given.
+#[derive(Clone, Copy, PartialEq, Eq)]
+enum Wish {
+    // Any.
+    Any,
+    // Any but one that is better left to who runs another one.
+    WorthAWorker,
+}
+
 // The word after a step. It may come round, since only sleepers read more of it than its last bit.
 fn next_even(word: u64) -> u64
     requires { word % 2 ≡ 0 }
@@ -198,9 +207,19 @@ impl Yard {
         ensures turn { IfOk result (TurnIs pass.old pass.new) }
         ensures refused { OnErr result (Rested pass.old pass.new) }
     {
+        self.take_one(rt, pass, Wish::Any)
+    }
+
+    // A job as it is wished for, or the reason why there is none.
+    fn take_one<R: Wait>(&self, rt: &R, pass: &mut Pass, wish: Wish) -> Result<Turn, AllocError>
+        requires own { pass.old.yard ≡ self.now.table.shared.table_id }
+        requires idle { pass.old.out ≡ None }
+        ensures turn { IfOk result (TurnIs pass.old pass.new) }
+        ensures refused { OnErr result (Rested pass.old pass.new) }
+    {
         let mut seen = 0;
         for _ in rt.forever() {
-            if let Some(turn) = self.try_take(rt, pass, &mut seen)? {
+            if let Some(turn) = self.try_take(rt, pass, wish, &mut seen)? {
                 return Ok(turn);
             }
             self.rest(rt, seen);
@@ -225,9 +244,11 @@ impl Yard {
         ensures refused { IfErr result (λ e. Rested pass.old pass.new × (e.1 ≡ done)) }
     {
         let process = done.process;
+        let counted = done.emitted.counted;
         let (mut board, word) = self.seize(rt, &mut pass.place);
         match board.commit(done) {
             Ok(()) => {
+                self.lengths.end(process, counted);
                 let call = self.call_after(&board);
                 self.free_after(&mut pass.place, board, Step::Commit(process), word);
                 pass.out = None;
@@ -258,14 +279,32 @@ impl Yard {
         ensures ok { IfOk result (λ had. GaveAndTook done.process had pass.old pass.new) }
         ensures refused { IfErr result (λ e. Rested pass.old pass.new × (e.1 ≡ done)) }
     {
+        self.give_and_take_one(rt, pass, done, Wish::Any)
+    }
+
+    // Hands in what the job that is out with the pass gave, and asks for the next one as it is wished for, in one turn.
+    fn give_and_take_one<R: Wait>(
+        &self,
+        rt: &R,
+        pass: &mut Pass,
+        done: Done,
+        wish: Wish,
+    ) -> Result<Option<Turn>, (AllocError, Done)>
+        requires own { pass.old.yard ≡ self.now.table.shared.table_id }
+        requires job { (pass.old.out ≡ Some done.process) × IsGivenOn pass.old.known done }
+        ensures ok { IfOk result (λ had. GaveAndTook done.process had pass.old pass.new) }
+        ensures refused { IfErr result (λ e. Rested pass.old pass.new × (e.1 ≡ done)) }
+    {
         let process = done.process;
+        let counted = done.emitted.counted;
         let (mut board, word) = self.seize(rt, &mut pass.place);
         if let Err(refused) = board.commit(done) {
             self.free(&mut pass.place, board, word);
             return Err(refused);
         }
+        self.lengths.end(process, counted);
         let board = self.note(&mut pass.place, board, Step::Commit(process), word);
-        let turn = self.act(&mut pass.place, board, next_even(word));
+        let turn = self.act(&mut pass.place, board, next_even(word), wish);
         pass.out = process_of(&turn);
         Ok(turn.unwrap_or(None))
     }
@@ -328,7 +367,7 @@ impl Yard {
         requires idle { pass.old.out ≡ None }
         ensures { RoundIs pass.old pass.new result }
     {
-        match self.take(rt, pass) {
+        match self.take_one(rt, pass, Wish::WorthAWorker) {
             Ok(turn) => job_or_end(turn),
             Err(_) => Err(Worked::NoMemory),
         }
@@ -358,8 +397,7 @@ impl Yard {
             self.abandon(rt, pass);
             return Err(AllocError);
         };
-        self.lengths.note(done.process, done.emitted.counted);
-        match self.give_and_take(rt, pass, done) {
+        match self.give_and_take_one(rt, pass, done, Wish::WorthAWorker) {
             Ok(had) => Ok(had),
             Err(_) => {
                 self.abandon(rt, pass);
@@ -457,12 +495,13 @@ impl Yard {
         shared.exchange(place, 0, None).unwrap().open()
     }
 
-    // With the turn held: one look at the board, and a job if one may be had. The turn is let go.
+    // With the turn held: one look at the board, and a job as it is wished for, if one may be had. The turn is let go.
     fn act(
         &self,
         place: &mut Place,
         mut board: Box<Board>,
         word: u64,
+        wish: Wish,
     ) -> Result<Option<Turn>, AllocError>
         requires own { place.old.table_id ≡ self.now.table.shared.table_id }
         requires held { (place.old.me.1 ≡ (0, None) ∷ []) × (place.old.me.0.turn ≡ true)
@@ -484,8 +523,13 @@ impl Yard {
             }
             return Ok(end);
         };
+        if wish == Wish::WorthAWorker && self.lengths.is_left(p) {
+            self.free(place, board, word);
+            return Ok(None);
+        }
         match board.dispatch(self.alloc, p) {
             Ok(job) => {
+                self.lengths.begin(p);
                 let call = self.call_beside(&board, p);
                 self.free_after(place, board, Step::Dispatch(p), word);
                 self.wake(call);
@@ -500,11 +544,12 @@ impl Yard {
         }
     }
 
-    // One look at the board, and a turn if there is one. What the word was that was found is left in `seen`.
+    // One look at the board, and a turn as it is wished for, if there is one. The word that was found is left in `seen`.
     fn try_take<R: Wait>(
         &self,
         rt: &R,
         pass: &mut Pass,
+        wish: Wish,
         seen: &mut u64,
     ) -> Result<Option<Turn>, AllocError>
         requires own { pass.old.yard ≡ self.now.table.shared.table_id }
@@ -515,7 +560,7 @@ impl Yard {
     {
         let (board, word) = self.seize(rt, &mut pass.place);
         *seen = word;
-        let turn = self.act(&mut pass.place, board, word);
+        let turn = self.act(&mut pass.place, board, word, wish);
         pass.out = process_of(&turn);
         turn
     }

@@ -1,6 +1,6 @@
 use Rattle.std.proofs.Common.{sym, ap, ◌∙◌}
 use Rattle.ooo_workers.proofs.Calls.{gave_and_took, rested_pass}
-use Rattle.ooo_workers.proofs.yard.Yard.give_and_take.Goals as goal
+use Rattle.ooo_workers.proofs.yard.Yard.give_and_take_one.Goals as goal
 
 pub returns-in-Err-clause-refused : goal.returns-in-Err-clause-refused
 returns-in-Err-clause-refused g c =

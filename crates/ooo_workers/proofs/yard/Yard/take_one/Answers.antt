@@ -2,7 +2,7 @@ use Rattle.std.proofs.Common.{subst, IfSome}
 use Rattle.std.specs.Prelude.{IfNone}
 use Rattle.ooo_workers.specs.Passes.{Rested, TurnIs}
 use Rattle.ooo_workers.proofs.Turns.{on_err, rested_trans, rested_turn}
-use Rattle.ooo_workers.proofs.yard.Yard.take.Goals as goal
+use Rattle.ooo_workers.proofs.yard.Yard.take_one.Goals as goal
 
 pub returns-in-Some-2-clause-turn : goal.returns-in-Some-2-clause-turn
 returns-in-Some-2-clause-turn g c = rested_turn c.args.pass.now c.loop.pass c.try_take.new.pass c.in-Some-2.turn c.loop.invariant (subst (λ o. IfSome o (TurnIs c.loop.pass c.try_take.new.pass)) c.in-Some-2.is c.in_ok-turn.ensures.some)
