@@ -1,5 +1,5 @@
 mod Joined
-mod Blocks
+mod Opened
 mod Firsts
 mod Puts
 mod Shaped

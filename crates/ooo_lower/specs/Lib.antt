@@ -2,6 +2,7 @@ pub mod Widths
 pub mod Scenes
 pub mod Codes
 pub mod Extents
+pub mod Blocks
 pub mod Changes
 pub mod Parts
 pub mod Lowered

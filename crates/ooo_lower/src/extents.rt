@@ -8,6 +8,7 @@ ghost use Rattle.ooo_shapes.specs.Shapes.{function_widths, lead_size, lined_shap
 ghost use Rattle.ooo_shapes.specs.Shapes.{shape_within};
 ghost use Rattle.ooo_lower.specs.Scenes.{home_at};
 
+use crate::blocks::bare;
 use crate::numbers::sum;
 use crate::scene::{Known, Scene};
 use crate::widths::{both, count_of, of_body, of_params};
@@ -75,7 +76,8 @@ fn function_widths(function: &BoundFunction) -> Result<Widths, AllocError>
     ensures { IfOk result (λ w. w ≡ function_widths function.now) }
 {
     let params = of_params(function.params.as_slice())?;
-    Ok(both(params, of_body(function.body.as_slice())))
+    let body = bare(function.body.as_slice());
+    Ok(both(params, of_body(body)))
 }
 
 // How many slots a call has for the called function itself, whose locals need these.
@@ -372,7 +374,7 @@ fn of_function(known: Known<'_>, function: &BoundFunction) -> Result<Outline, Al
     requires { IsKnown known }
     ensures { IfOk result (λ o. IsOutlineOf o known.entry.model.now function.now) }
 {
-    let body = of_stats(known, function.body.as_slice())?;
+    let body = of_stats(known, bare(function.body.as_slice()))?;
     let widths = function_widths(function)?;
     let own = call_slots(function, widths)?;
     let last = sum(body.nodes, 1)?;

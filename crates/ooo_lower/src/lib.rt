@@ -14,6 +14,7 @@ macro_rules! keeping {
     };
 }
 
+mod blocks;
 mod calls;
 mod code;
 mod designs;

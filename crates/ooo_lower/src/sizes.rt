@@ -4,6 +4,7 @@ ghost use Rattle.ooo_lower.specs.Weighing.{Spends, SpendsOwn, owed_calls, sizes_
 ghost use Rattle.ooo_shapes.specs.Sizes.{after_size, body_size, code_size, processes_size, right_size};
 ghost use Rattle.ooo_shapes.specs.Sizes.{simple_size, simples_size, sizes_within, stat_size};
 
+use crate::blocks::bare;
 use crate::numbers::sum;
 use ooo_bound::{
     Bound, BoundFunction, BoundProcess, BoundRight, BoundSimple, BoundStat, LinedSimple,
@@ -171,7 +172,7 @@ fn weight_of(alloc: Global, body: &[BoundStat]) -> Result<Weight, AllocError>
     ensures { IfOk result (λ w. IsWeightOf w body.now) }
 {
     let mut w = Weight::new(alloc);
-    weigh_body(&mut w, body)?;
+    weigh_body(&mut w, bare(body))?;
     Ok(w)
 }
 

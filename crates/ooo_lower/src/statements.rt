@@ -15,6 +15,7 @@ ghost use Rattle.ooo_shapes.specs.Shapes.{lined_shape, lined_shapes, loop_shape,
 ghost use Rattle.ooo_shapes.specs.Shapes.{shape_of, shape_within, simple_shape, then};
 ghost use Rattle.ooo_shapes.specs.Simples.{counted};
 
+use crate::blocks::bare;
 use crate::calls::{frame_of, leave_kind, push_kinds, put_arguments, put_zeros};
 use crate::code::Code;
 use crate::expressions::{lowered, lowered_time};
@@ -479,7 +480,7 @@ impl<'a> Site<'a> {
             tasks.old tasks.new code.now code.now) }
     {
         let at = code.at()?;
-        self.split_body(tasks, at, body)
+        self.split_body(tasks, at, bare(body))
     }
 
     // Statements without statements in them.

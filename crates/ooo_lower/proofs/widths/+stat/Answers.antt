@@ -1,6 +1,6 @@
 use Rattle.std.proofs.Common.{◌∙◌, ap}
 use Rattle.ooo_shapes.specs.Widths.{body_widths}
-use Rattle.ooo_lower.proofs.Blocks.{block_widths}
+use Rattle.ooo_lower.proofs.Opened.{block_widths}
 use Rattle.ooo_lower.proofs.widths.+stat.Goals as goal
 
 pub of_stat-returns-in-Block : goal.of_stat-returns-in-Block
