@@ -1,5 +1,5 @@
 -- A request has one reply. The laws of texts and runs are premises.
-use Rattle.std.proofs.Common.{◌≡◌, ◌≢◌, ℕ, ◌≤◌, List, Option, Some, None, Result, Ok, Err, IfOk, OnOk, length, refl, sym, ap, subst, ◌∙◌, arith}
+use Rattle.std.proofs.Common.{◌≡◌, ◌≢◌, ℕ, ◌≤◌, List, Option, Some, None, Result, Ok, Err, IfOk, OnOk, refl, sym, ap, subst, ◌∙◌, arith}
 use Rattle.std.specs.Prelude.{IfSome}
 use Rattle.ooo_time.specs.declared.time.Time.{Time}
 use Rattle.ooo_time.specs.Scales.{greatest_time}
@@ -23,7 +23,6 @@ use Rattle.ooo_tables.specs.Text.{tables_text}
 use Rattle.ooo_code.specs.declared.design.Design.{Design}
 use Rattle.ooo_plain.specs.Cycles.{AreInRange as AreRunLimits}
 use Rattle.ooo_sim.specs.declared.reply.Reply.{Reply}
-use Rattle.ooo_lexer.specs.declared.position.TheConstants.{MOST_BYTES}
 use Rattle.ooo_sim.specs.declared.request.Request.{Request}
 use Rattle.ooo_sim.specs.declared.request.Request.TheVariants as request
 use Rattle.ooo_sim.specs.declared.request.Told.{Told}
@@ -34,8 +33,7 @@ use Rattle.ooo_sim.specs.declared.outcome.Refusal.{Refusal}
 use Rattle.ooo_sim.specs.declared.outcome.Refusal.TheVariants as refusal
 use Rattle.ooo_sim.specs.declared.outcome.Verdict.TheVariants as verdict
 use Rattle.ooo_sim.specs.Laws.{AcceptedAreReady, HasOneReply}
-use Rattle.ooo_sim.specs.Lines.{refusal_line}
-use Rattle.ooo_sim.specs.Replies.{reply, refused, TellsRun, limits_of, told_of, verdict_of, stop_of, IsAcceptedAs, IsRefusedAs, IsFrontReply, IsReplyOf, IsRunReply, IsTextReply, Lists, too_long, read, IsReplyTo}
+use Rattle.ooo_sim.specs.Replies.{reply, refused, TellsRun, limits_of, told_of, verdict_of, stop_of, IsAcceptedAs, IsRefusedAs, IsFrontReply, IsReplyOf, IsRunReply, IsTextReply, Lists, too_long, read}
 use Rattle.ooo_sim.proofs.Reports.{AreSame, by_nodes}
 
 -- the sequential run of a design is one

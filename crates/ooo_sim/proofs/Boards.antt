@@ -1,7 +1,6 @@
 -- The boards of runs by workers, and the board in an answer.
-use Rattle.std.proofs.Common.{◌≡◌, ◌≢◌, ℕ, List, [], ◌++◌, Option, Some, None, Result, Ok, Err, IfOk, OnOk, refl, sym, ap, subst, ◌∙◌, true}
+use Rattle.std.proofs.Common.{◌≡◌, ◌≢◌, ℕ, List, [], Some, None, Result, Ok, Err, IfOk, refl, sym, ap, subst, ◌∙◌, true}
 use Rattle.std.specs.Prelude.{IfErr, IfSome, is_some}
-use Rattle.ooo_time.specs.declared.time.Time.{Time}
 use Rattle.ooo_bound.specs.declared.model.Bound.{Bound}
 use Rattle.ooo_code.specs.declared.design.Design.{Design}
 use Rattle.ooo_code.specs.declared.limits.Limits.{Limits}
@@ -10,7 +9,6 @@ use Rattle.ooo_tables.specs.Tables.{AreTables}
 use Rattle.ooo_dispatch.specs.declared.step.Step.{Step}
 use Rattle.ooo_board.specs.Boards.{IsOver, Shown}
 use Rattle.ooo_workers.specs.Boards.{AreLawfulOn, Begins, HasLawful, IsQuiet, with_steps}
-use Rattle.ooo_front.specs.declared.answer.Accepted.{Accepted}
 use Rattle.ooo_front.specs.declared.answer.Refused.TheVariants as front
 use Rattle.ooo_words.specs.declared.command.RunOptions.{RunOptions}
 use Rattle.ooo_sim.specs.declared.workers.ModelRun.{ModelRun}
@@ -18,14 +16,13 @@ use Rattle.ooo_sim.specs.declared.workers.RunError.{RunError}
 use Rattle.ooo_sim.specs.declared.workers.RunError.TheVariants as error
 use Rattle.ooo_sim.specs.declared.outcome.Refusal.{Refusal}
 use Rattle.ooo_sim.specs.declared.outcome.Refusal.TheVariants as refusal
-use Rattle.ooo_sim.specs.declared.outcome.Verdict.{Verdict}
 use Rattle.ooo_sim.specs.declared.reply.Answer.{Answer}
 use Rattle.ooo_sim.specs.declared.reply.Reply.{Reply}
 use Rattle.ooo_sim.specs.declared.request.Told.{Told}
 use Rattle.ooo_sim.specs.declared.request.Wanted.TheVariants as wanted
-use Rattle.ooo_sim.specs.Boards.{IsAnswerOfRun, IsBoardOfRun, IsClosed, IsClosedFor, IsClosedOf, IsDriven, IsFresh, IsNotRun, IsRunError, IsStarted, MayBeRun, MayBeTold}
+use Rattle.ooo_sim.specs.Boards.{IsAnswerOfRun, IsBoardOfRun, IsClosed, IsClosedOf, IsDriven, IsFresh, IsNotRun, IsRunError, IsStarted, MayBeRun, MayBeTold}
 use Rattle.ooo_sim.specs.Outcomes.{is_granted}
-use Rattle.ooo_sim.specs.Replies.{IsAcceptedAs, IsRefusedAs, IsRunReply, IsTextReply, TellsRun, limits_of, read, refused, stop_of}
+use Rattle.ooo_sim.specs.Replies.{IsRefusedAs, IsRunReply, IsTextReply, TellsRun, read, refused}
 use Rattle.ooo_sim.proofs.Answers.{refuses}
 use Rattle.ooo_sim.proofs.Reports.{granted}
 

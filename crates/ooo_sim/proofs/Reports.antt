@@ -1,8 +1,7 @@
 -- The report of a run of a model, by its statements and by its nodes.
-use Rattle.std.proofs.Common.{◌≡◌, ◌∙◌, ℕ, ◌+◌, ◌≤◌, List, [], ◌∷◌, length, Option, Some, None, refl, sym, ap, subst, arith, suc, true}
-use Rattle.std.specs.Prelude.{IfOk, IfSome, OnOk, Result as Answer, Ok, Err}
+use Rattle.std.proofs.Common.{◌≡◌, ◌∙◌, ℕ, ◌+◌, ◌≤◌, List, [], ◌∷◌, length, refl, sym, ap, subst, arith, suc, true}
+use Rattle.std.specs.Prelude.{IfOk, Result as Answer, Ok, Err}
 use Rattle.ooo_time.specs.declared.time.Time.{Time}
-use Rattle.ooo_time.specs.Scales.{greatest_time}
 use Rattle.ooo_value.specs.declared.naming.Names.{Names}
 use Rattle.ooo_bound.specs.declared.model.Bound.{Bound}
 use Rattle.ooo_bound.specs.declared.model.BoundProcess.{BoundProcess}
@@ -11,20 +10,18 @@ use Rattle.ooo_code.specs.declared.limits.Limits.{Limits}
 use Rattle.ooo_history.specs.declared.run.End.{End}
 use Rattle.ooo_history.specs.declared.run.End.TheVariants as end
 use Rattle.ooo_history.specs.declared.run.Run.{Run}
-use Rattle.ooo_history.specs.Reporting.{IsNamed, closed, end_text, histories_text, report_text}
+use Rattle.ooo_history.specs.Reporting.{IsNamed, report_text}
 use Rattle.ooo_meaning.specs.Runs as nodes
 use Rattle.ooo_meaning.specs.Runs.{Shows}
-use Rattle.ooo_meaning.specs.Sequence.{Result, output_of}
+use Rattle.ooo_meaning.specs.Sequence.{Result}
 use Rattle.ooo_activation.specs.Runs as statements
 use Rattle.ooo_activation.specs.Sound.{IsSound}
 use Rattle.ooo_shapes.specs.Designs.{design_of, process_size, processes_from}
 use Rattle.ooo_front.specs.declared.answer.Accepted.{Accepted}
 use Rattle.ooo_meaning.specs.Endings.{EndingsAreNamed, RunsHaveHistories}
 use Rattle.ooo_plain.specs.Running.{ShowsRun}
-use Rattle.ooo_sim.specs.declared.reply.Reply.{Reply}
 use Rattle.ooo_sim.specs.declared.outcome.Verdict.{Verdict}
 use Rattle.ooo_sim.specs.declared.outcome.Verdict.TheVariants as verdict
-use Rattle.ooo_sim.specs.declared.outcome.Refusal.{Refusal}
 use Rattle.ooo_sim.specs.Laws.{IsReady}
 use Rattle.ooo_sim.specs.Outcomes.{is_granted}
 use Rattle.ooo_sim.specs.declared.request.Told.{Told}

@@ -1,9 +1,8 @@
 -- What a call wrote.
-use Rattle.std.proofs.Common.{◌≡◌, ◌≢◌, ℕ, List, [], Option, None, Some, Result, Ok, Err, IfOk, IsOk, length, take, refl, sym, ap, subst, ◌∙◌, take_all, arith, Bool, true, false}
+use Rattle.std.proofs.Common.{◌≡◌, ◌≢◌, ℕ, List, [], Option, None, Some, Result, Ok, Err, IfOk, IsOk, length, take, refl, sym, ap, subst, ◌∙◌, take_all, arith, true, false}
 use Rattle.std.specs.Io.KnownBytes.{Appends}
 use Rattle.std.proofs.KnownBytes.{Appends-nil}
 use Rattle.ooo_bound.specs.declared.model.Bound.{Bound}
-use Rattle.ooo_board.specs.Boards.{Shown}
 use Rattle.ooo_time.specs.declared.time.Time.{Time}
 use Rattle.ooo_words.specs.declared.command.RunOptions.{RunOptions}
 use Rattle.ooo_words.specs.Limits.{by_default}

@@ -1,4 +1,3 @@
-use Rattle.std.proofs.Common.{sym}
 use Rattle.ooo_words.specs.Reading.{reading}
 use Rattle.ooo_sim.specs.declared.outcome.Failure.TheVariants as failure
 use Rattle.ooo_sim.specs.Requests.{request_of, words_of}

@@ -1,7 +1,7 @@
 use Rattle.std.proofs.Common.{IfOk, subst, rules}
 use Rattle.ooo_sim.specs.declared.outcome.Failure.TheVariants as failure
 use Rattle.ooo_sim.specs.Boards.{IsAnswerFrom}
-use Rattle.ooo_sim.proofs.Writing.{failed_first, told_all, wrote_all, wrote_prefix}
+use Rattle.ooo_sim.proofs.Writing.{failed_first, wrote_all, wrote_prefix}
 use Rattle.ooo_sim.proofs.call.tell.Goals as goal
 
 pub returns-in-Err-Failed-clause-written : goal.returns-in-Err-Failed-clause-written
