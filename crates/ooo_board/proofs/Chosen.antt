@@ -29,7 +29,7 @@ pub is_choice : (b : Shown) (c : Core) → IsKept b c → Laws → (choice : Cho
 is_choice b c has laws choice states fronts held cut = record {
   states = subst (AreStatesOf (rules b) (state b).board) (sym states) (are_states (rules b) (state b) c.states.items has.core.has_states);
   fronts = subst (AreFrontsOf (rules b) (state b).board) (sym fronts) has.core.has_fronts;
-  held = rw (fronts, held) ((laws b.design b.limits b.tables has.stands.ready).counts c.fronts.fronts c.fronts.counts has.core.has_counts);
+  held = rw (fronts, held) ((laws b.design b.limits b.tables has.stands.ready).counts c.fronts.fronts c.fronts.counts has.core.has_kept.counts);
   cut = subst (IsCutOf (rules b) (state b).board.log) (sym cut) has.core.has_cut;
 }
 
@@ -104,7 +104,7 @@ module _ (b : Shown) (c : Core) (has : IsKept b c) (laws : Laws) (none : (state 
   free : CouldRun b p → held b.tables c.fronts.fronts p ≡ 0 → MayBeDispatched b p
   free could nothing =
       let kept : kept_front c.fronts.fronts p ≡ Some could.0 = sym (has.core.has_fronts.each p) ∙ could.1.front in
-      let counts = own_laws.counts c.fronts.fronts c.fronts.counts has.core.has_counts p could.0 kept in (
+      let counts = own_laws.counts c.fronts.fronts c.fronts.counts has.core.has_kept.counts p could.0 kept in (
         none,
         could.0,
         record {
@@ -112,7 +112,7 @@ module _ (b : Shown) (c : Core) (has : IsKept b c) (laws : Laws) (none : (state 
           front = could.1.front;
           below_cut = could.1.below_cut;
           below_limit = could.1.below_limit;
-          free = λ q g differs is. counts.0 (has.core.has_counts.each p ∙ nothing) q g differs (sym (has.core.has_fronts.each q) ∙ is);
+          free = λ q g differs is. counts.0 (has.core.has_kept.counts.each p ∙ nothing) q g differs (sym (has.core.has_fronts.each q) ∙ is);
         },
       )
 

@@ -13,7 +13,7 @@ use Rattle.ooo_fronts.specs.declared.choice.State.TheVariants.{Waiting, Running,
 use Rattle.ooo_fronts.specs.declared.front.Front.{Front}
 use Rattle.ooo_fronts.specs.Fronts.{AreFit, AreFrontsOf, Kept, front_is}
 use Rattle.ooo_fronts.specs.Cuts.{IsCutOf}
-use Rattle.ooo_fronts.specs.Holds.{AreCounts}
+use Rattle.ooo_fronts.specs.Holds.{AreKept}
 use Rattle.ooo_dispatch.specs.declared.reads.Reads.{Reads}
 use Rattle.ooo_dispatch.specs.declared.step.Step.{Step}
 use Rattle.ooo_dispatch.specs.declared.step.Step.TheVariants.{Dispatch}
@@ -172,7 +172,7 @@ module _ (design : Design) (limits : Limits) (t : Tables) (steps : List Step) (p
       has_processes = processes_after;
       has_states = states_after;
       has_fronts = fronts_after;
-      has_counts = subst (λ (k : Kept). AreCounts t k.fronts k.counts) (sym went.fronts) core.has_counts;
+      has_kept = subst (AreKept t) (sym went.fronts) core.has_kept;
       fit = subst (λ (k : Kept). AreFit t k.fronts) (sym went.fronts) core.fit;
       has_cut = subst (IsCutOf r b.log) (sym went.cut) core.has_cut;
       has_pieces = went.pieces ∙ core.has_pieces;

@@ -15,7 +15,7 @@ use Rattle.ooo_fronts.specs.declared.choice.State.{State}
 use Rattle.ooo_fronts.specs.declared.choice.State.TheVariants.{Waiting, Running, Abandoned}
 use Rattle.ooo_fronts.specs.declared.front.Front as kept
 use Rattle.ooo_fronts.specs.Fronts.{AreFit, IsFit, front_is, kept_front, maybe_front, process_in}
-use Rattle.ooo_fronts.specs.Holds.{AreCounts}
+use Rattle.ooo_fronts.specs.Holds.{AreKept}
 use Rattle.ooo_board.specs.declared.cores.Core.{Core}
 use Rattle.ooo_board.specs.declared.process.Process.{Process}
 use Rattle.ooo_board.specs.Cores.{maybe_wait}
@@ -104,7 +104,7 @@ module _ (r : Rules) (t : Tables) (s : Replay r) where
               delta = omega arith;
             }
 
-        module _ (d : Core) (others : d ≡ record c { fronts = d.fronts }) (set : d.fronts.fronts ≡ slice_set c.fronts.fronts q front) (fit : AreFit t d.fronts.fronts) (counts : AreCounts t d.fronts.fronts d.fronts.counts) (within : q < length c.fronts.fronts) where
+        module _ (d : Core) (others : d ≡ record c { fronts = d.fronts }) (set : d.fronts.fronts ≡ slice_set c.fronts.fronts q front) (fit : AreFit t d.fronts.fronts) (kept : AreKept t d.fronts) (within : q < length c.fronts.fronts) where
           now_right : (y : ℕ) → y ≡ q → IsRight r s.board d.fronts.fronts y
           now_right y e =
               let here : kept_front d.fronts.fronts q ≡ maybe_front front = ap (λ fs. kept_front fs q) set ∙ ap maybe_front (get_or-set_same c.fronts.fronts q front None within) in
@@ -131,7 +131,7 @@ module _ (r : Rules) (t : Tables) (s : Replay r) where
             in_reach = waking.in_reach;
             deltas = waking.deltas;
             aligned = waking.aligned;
-            counts = counts;
+            kept = kept;
             fit = fit;
           }
 

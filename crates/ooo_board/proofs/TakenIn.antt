@@ -39,7 +39,7 @@ use Rattle.ooo_fronts.specs.declared.choice.State.TheVariants.{Waiting, Running,
 use Rattle.ooo_fronts.specs.declared.front.Front as kept
 use Rattle.ooo_fronts.specs.Cuts.{IsCutOf, calls_stop}
 use Rattle.ooo_fronts.specs.Fronts.{AreFit, kept_front}
-use Rattle.ooo_fronts.specs.Holds.{AreCounts}
+use Rattle.ooo_fronts.specs.Holds.{AreKept}
 use Rattle.ooo_meaning.specs.World.{place_of}
 use Rattle.ooo_dispatch.specs.ReadOff.{piece_in}
 use Rattle.ooo_dispatch.specs.Reports.{piece_of}
@@ -513,7 +513,7 @@ module _ (design : Design) (limits : Limits) (t : Tables) (s : Replay (rules_of 
     in_reach = keep.in_reach;
     deltas = deltas;
     aligned = keep.aligned;
-    counts = subst (λ f. AreCounts t f.fronts f.counts) (sym takes.fronts) core.has_counts;
+    kept = subst (AreKept t) (sym takes.fronts) core.has_kept;
     fit = subst (λ f. AreFit t f.fronts) (sym takes.fronts) core.fit;
   }
 
@@ -570,7 +570,7 @@ module _ (design : Design) (limits : Limits) (t : Tables) (s : Replay (rules_of 
       has_processes = new_processes;
       has_states = new_states;
       has_fronts = record { count = second.waking.count; each = all_right };
-      has_counts = second.waking.counts;
+      has_kept = second.waking.kept;
       fit = second.waking.fit;
       has_cut = takes.cut s.board.log core.has_cut place_is (sym (ap (λ o. o.deed.end) is.does)) (ap (list_any is_stop) (effects_are design limits t s p j keep done is at stamp c0 core));
       has_pieces = takes.pieces ∙ (λ i. core.has_pieces i ++ printed i);

@@ -30,7 +30,7 @@ use Rattle.ooo_fronts.specs.declared.choice.State.TheVariants.{Waiting, Running,
 use Rattle.ooo_fronts.specs.declared.front.Front.{Front}
 use Rattle.ooo_fronts.specs.Cuts.{IsCutOf}
 use Rattle.ooo_fronts.specs.Fronts.{AreFit, AreFrontsOf, front_is}
-use Rattle.ooo_fronts.specs.Holds.{AreCounts}
+use Rattle.ooo_fronts.specs.Holds.{AreKept}
 use Rattle.ooo_board.specs.declared.cores.Core.{Core}
 use Rattle.ooo_board.specs.Forgetting.{HasBank}
 use Rattle.ooo_board.specs.Jobs.{Gives, IsJobOf}
@@ -103,7 +103,7 @@ pub record IsCore (design : Design) (limits : Limits) (t : Tables) (s : Replay (
   pub has_processes : AreProcesses (rules_of design limits t) s.board c.processes.items
   pub has_states : AreStatesAfter (rules_of design limits t) s c.states.items
   pub has_fronts : AreFrontsOf (rules_of design limits t) s.board c.fronts.fronts
-  pub has_counts : AreCounts t c.fronts.fronts c.fronts.counts
+  pub has_kept : AreKept t c.fronts
   pub fit : AreFit t c.fronts.fronts
   pub has_cut : IsCutOf (rules_of design limits t) s.board.log c.cut
   pub has_pieces : c.pieces.items ≡ pieces_in (rules_of design limits t) s.board.log

@@ -22,7 +22,7 @@ use Rattle.ooo_dispatch.specs.Steps.{Replay}
 use Rattle.ooo_tables.specs.declared.tables.Tables.{Tables}
 use Rattle.ooo_fronts.specs.declared.front.Front as kept
 use Rattle.ooo_fronts.specs.Fronts.{AreAligned, AreFit, kept_front}
-use Rattle.ooo_fronts.specs.Holds.{AreCounts}
+use Rattle.ooo_fronts.specs.Holds.{AreKept}
 use Rattle.ooo_board.specs.declared.cores.Core.{Core}
 use Rattle.ooo_board.specs.declared.links.Links.{Links}
 use Rattle.ooo_board.specs.Cores.{AreProcesses, AreStatesAfter}
@@ -72,7 +72,7 @@ pub record IsWaking (r : Rules) (t : Tables) (s : Replay r) (c : Core) : Type 0 
   pub in_reach : FrontsInReach r t.advance s
   pub deltas : r.limits.deltas ≤ greatest_delta
   pub aligned : AreAligned t
-  pub counts : AreCounts t c.fronts.fronts c.fronts.counts
+  pub kept : AreKept t c.fronts
   pub fit : AreFit t c.fronts.fronts
 
 -- so it is, with the look-ups

@@ -11,7 +11,7 @@ ghost use Rattle.ooo_dispatch.specs.Rules.{Rules, tables};
 ghost use Rattle.ooo_dispatch.specs.Steps.{Replay};
 ghost use Rattle.ooo_fronts.specs.declared.front.Front.{Front as FrontSpec};
 ghost use Rattle.ooo_fronts.specs.Fronts.{AreAligned, AreFit, IsFit, maybe_front};
-ghost use Rattle.ooo_fronts.specs.Holds.{AreCounts};
+ghost use Rattle.ooo_fronts.specs.Holds.{AreKept};
 ghost use Rattle.ooo_fronts.specs.Reaching.{AreReaches};
 ghost use Rattle.ooo_board.specs.Cores.{maybe_wait};
 ghost use Rattle.ooo_board.specs.Waking.{IsAsked, IsThere, MayAskFront, MayWake, Woken, EffectsReach, EventsReach, Reaches, ReachesAll, front_told};
@@ -107,11 +107,11 @@ impl Core {
         requires within { q < length self.old.fronts.fronts }
         requires new { (f : FrontSpec) → front ≡ Some f → IsFit tables.now q f }
         requires fit { AreFit tables.now self.old.fronts.fronts }
-        requires counts { AreCounts tables.now self.old.fronts.fronts self.old.fronts.counts }
+        requires kept { AreKept tables.now self.old.fronts }
         ensures others { self.new ≡ record self.old { fronts = self.new.fronts } }
         ensures fronts { self.new.fronts.fronts ≡ slice_set self.old.fronts.fronts q front }
         ensures fit { AreFit tables.now self.new.fronts.fronts }
-        ensures counts { AreCounts tables.now self.new.fronts.fronts self.new.fronts.counts }
+        ensures kept { AreKept tables.now self.new.fronts }
     {
         if are_same(front, self.fronts.front(q)) {
             return;

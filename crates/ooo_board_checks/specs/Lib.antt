@@ -1,3 +1,2 @@
-pub mod Sketches
-pub mod Tests
+pub mod Samples
 pub mod Trials

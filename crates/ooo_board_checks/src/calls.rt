@@ -1,9 +1,10 @@
 //! What the worked rows leave out of the calls of a board: which steps are refused, abandoned jobs, and the schedule.
 
-use crate::rows::Row;
-use crate::trial::Line::{
-    self, Allowed, Front, Holder, Holds, IsLost, IsOver, Makes, Picks, Refuses, Running,
+use crate::lines::Line::{
+    Allowed, Front, Holder, Holds, IsLost, IsOver, Makes, Picks, Refuses, Running,
 };
+use crate::lines::first_wrong;
+use crate::rows::Row;
 use crate::trial::Trial;
 use ooo_dispatch::Step::{self, Abandon, Commit, Dispatch};
 use std::test::Fail;
@@ -18,7 +19,7 @@ fn is_same(one: Step, other: Step) -> bool {
 
 // Whether these are the steps that were made.
 fn has_made(trial: &Trial, steps: &[Step]) -> bool {
-    let made = trial.schedule();
+    let made = trial.board.schedule();
     made.len() == steps.len()
         && made
             .iter()
@@ -59,8 +60,11 @@ fn a_job_is_out_until_its_commit(rt: HostRuntime) -> Result<(), Fail> {
         IsOver(true),
         Picks(None),
     ];
-    let mut trial = Trial::make(alloc, Row::SecondThreadFirst)?;
-    let wrong = trial.first_wrong(alloc, &lines)?;
+    let Some(sample) = Row::SecondThreadFirst.sample(alloc)? else {
+        panic!(rt; "the text is refused")
+    };
+    let mut trial = Trial::make(alloc, &sample)?;
+    let wrong = first_wrong(alloc, &mut trial, &lines)?;
     assert_eq!(rt; wrong, None);
     let steps = [
         Dispatch(0),
@@ -96,8 +100,11 @@ fn an_abandoned_job_is_lost(rt: HostRuntime) -> Result<(), Fail> {
         Holder(1, None),
         IsOver(false),
     ];
-    let mut trial = Trial::make(alloc, Row::VariableAhead)?;
-    let wrong = trial.first_wrong(alloc, &lines)?;
+    let Some(sample) = Row::VariableAhead.sample(alloc)? else {
+        panic!(rt; "the text is refused")
+    };
+    let mut trial = Trial::make(alloc, &sample)?;
+    let wrong = first_wrong(alloc, &mut trial, &lines)?;
     assert_eq!(rt; wrong, None);
     let steps = [Dispatch(0), Dispatch(1), Abandon(0), Commit(1)];
     assert!(rt; has_made(&trial, &steps));

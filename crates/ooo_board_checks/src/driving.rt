@@ -1,18 +1,76 @@
 //! Boards that are driven in orders drawn from seeds.
 
 ghost use Rattle.std.specs.Prelude.{◌<◌};
+ghost use Rattle.ooo_board_checks.specs.Samples.{IsReady};
 ghost use Rattle.ooo_board_checks.specs.Trials.{AreHeld};
 
-use crate::rows::Row;
+use crate::sample::Sample;
 use crate::trial::Trial;
 use std::alloc::{AllocError, Global};
-use std::test::Fail;
 
-// How many orders are drawn for each row.
-const SEEDS: u64 = 2000;
+// More steps than a board of a small model takes.
+const MOST_STEPS: u32 = 10_000_000;
 
-// More steps than any of these boards takes.
-const MOST_STEPS: u32 = 1000;
+/// What boards report that are driven in several orders.
+#[derive(Drop)]
+pub(crate) enum Told {
+    /// All of them this.
+    Same(Vec<u8>),
+    /// In the order of this seed the board doesn't come to be over, or it reports something else than in the first.
+    Differs(u32),
+}
+
+/// What the boards of a sample report in orders of the seeds below `orders`, of which there is one at least.
+pub(crate) fn told_in_orders(
+    alloc: Global,
+    sample: &Sample,
+    orders: u32,
+) -> Result<Told, AllocError>
+    requires { IsReady sample.now }
+{
+    let Some(first) = told_in_order(alloc, sample, 0)? else {
+        return Ok(Told::Differs(0));
+    };
+    for seed in 1..orders {
+        let report = told_in_order(alloc, sample, seed)?;
+        let is_same = match &report {
+            Some(report) => report.as_slice() == first.as_slice(),
+            None => false,
+        };
+        if !is_same {
+            return Ok(Told::Differs(seed));
+        }
+    }
+    Ok(Told::Same(first))
+}
+
+// What a board reports that is driven in the order of a seed. None where it doesn't come to be over.
+fn told_in_order(alloc: Global, sample: &Sample, seed: u32) -> Result<Option<Vec<u8>>, AllocError>
+    requires { IsReady sample.now }
+{
+    let mut trial = Trial::make(alloc, sample)?;
+    drive(alloc, &mut trial, seed)?;
+    trial.report(alloc, &sample.names)
+}
+
+// Makes lawful steps in an order drawn from a seed, with any number of jobs out at once, until there is none or too many were
+// made.
+fn drive(alloc: Global, trial: &mut Trial, seed: u32) -> Result<(), AllocError>
+    requires { AreHeld trial.old.board trial.old.given.items }
+    ensures { AreHeld trial.new.board trial.new.given.items }
+{
+    let mut draws = Draws {
+        state: u64::from(seed),
+    };
+    for _step in 0..MOST_STEPS {
+        let steps = trial.lawful(alloc)?;
+        if steps.is_empty() {
+            return Ok(());
+        }
+        trial.step(alloc, steps[draws.below(steps.len())])?;
+    }
+    Ok(())
+}
 
 // Numbers that are drawn one after another from a seed.
 #[derive(Clone, Copy)]
@@ -32,39 +90,4 @@ impl Draws {
             .wrapping_add(1_442_695_040_888_963_407);
         (self.state >> 33) as usize % count
     }
-}
-
-// Makes lawful steps in an order drawn from a seed, with any number of jobs out at once, until there is none or too many were
-// made. It answers whether the board came to be over.
-fn drive(alloc: Global, trial: &mut Trial, seed: u64) -> Result<bool, AllocError>
-    requires { AreHeld trial.old.board trial.old.given.items }
-    ensures { AreHeld trial.new.board trial.new.given.items }
-{
-    let mut draws = Draws { state: seed };
-    for _step in 0..MOST_STEPS {
-        let steps = trial.lawful(alloc)?;
-        if steps.is_empty() {
-            return Ok(trial.is_over());
-        }
-        let step = steps[draws.below(steps.len())];
-        if !trial.step(alloc, step)? {
-            return Ok(false);
-        }
-    }
-    Ok(false)
-}
-
-// Each board comes to be over, whatever order is drawn, and reports what the sequential scheduler does.
-#[test]
-fn any_order_gives_the_report(rt: HostRuntime) -> Result<(), Fail> {
-    let alloc = rt.alloc();
-    for row in Row::ALL {
-        for seed in 0..SEEDS {
-            let mut trial = Trial::make(alloc, row)?;
-            let is_over = drive(alloc, &mut trial, seed)?;
-            assert!(rt; is_over, "{row:?}, seed {seed}");
-            assert!(rt; trial.reports(alloc, row.report())?, "{row:?}, seed {seed}");
-        }
-    }
-    Ok(())
 }

@@ -1,119 +1,42 @@
-//! A board under test: its steps, each made only where it may be made, and what it answers.
+//! A board that is tried: its steps, each made only where it may be made, and its report.
 
 ghost use Rattle.std.specs.Prelude.{◌≡◌, ◌<◌, IfOk, IsSome, IsTrue, None, length, replicate};
 ghost use Rattle.ooo_board.specs.Boards.{MayBeDispatched, rules, state};
 ghost use Rattle.ooo_dispatch.specs.Steps.{job_of};
+ghost use Rattle.ooo_board_checks.specs.Samples.{IsReady};
 ghost use Rattle.ooo_board_checks.specs.Trials.{AreHeld};
 
-use crate::rows::Row;
+use crate::sample::Sample;
 use ooo_board::Board;
-use ooo_code::Limits;
 use ooo_dispatch::Step;
-use ooo_fronts::{Front, Hold};
 use ooo_history::{is_named, report};
 use ooo_interp::{Done, run_segment};
 use ooo_tables::Tables;
-use ooo_time::Time;
 use ooo_value::Names;
 use std::alloc::{AllocError, Global};
 use std::sync::Arc;
 
-// A stop time of 100 ns, and limits that no row reaches.
-const LIMITS: Limits = Limits {
-    stop: Time(100_000),
-    deltas: 10_000,
-    statements: 1_000_000,
-};
+// As many processes as a model may have.
+const MOST_PROCESSES: u32 = 256;
 
-// More processes than any row has.
-const MOST_PROCESSES: u32 = 4;
-
-/// A step that is to be made, or an answer that the board is to give.
-#[derive(Clone, Copy)]
-pub(crate) enum Line {
-    Makes(Step),
-    /// The step isn't lawful, and isn't made.
-    Refuses(Step),
-    Front(u32, Option<Front>),
-    /// Whether a process may be dispatched.
-    Allowed(u32, bool),
-    Running(u32, bool),
-    Holder(u32, Option<Hold>),
-    Holds(&'static [u32]),
-    Picks(Option<u32>),
-    IsOver(bool),
-    IsLost(bool),
-}
-
-/// The board of a row, and what the job of each process gave that isn't committed yet.
+/// A board, and what the job of each process gave that isn't committed yet.
 #[derive(Drop)]
 pub(crate) struct Trial {
-    board: Board,
-    names: Names,
+    pub(crate) board: Board,
     given: Vec<Option<Done>>,
 }
 
 impl Trial {
-    /// The board of a row as a simulation starts.
-    pub(crate) fn make(alloc: Global, row: Row) -> Result<Trial, AllocError>
+    /// The board of a sample as a simulation starts.
+    pub(crate) fn make(alloc: Global, sample: &Sample) -> Result<Trial, AllocError>
+        requires { IsReady sample.now }
         ensures { IfOk result (λ trial. AreHeld trial.board trial.given.items) }
     {
-        let names = row.names(alloc)?;
-        let design = row.design(alloc)?;
-        let given = nothing_given(alloc, design.processes.len())?;
-        let tables = Tables::make(alloc, &design)?;
-        let board = Board::make(alloc, Arc::new(alloc, design)?, tables, LIMITS)?;
-        Ok(Trial {
-            board,
-            names,
-            given,
-        })
-    }
-
-    /// The number of the first of these lines that isn't so, if any is not.
-    pub(crate) fn first_wrong(
-        &mut self,
-        alloc: Global,
-        lines: &[Line],
-    ) -> Result<Option<usize>, AllocError>
-        requires { AreHeld self.old.board self.old.given.items }
-        ensures { AreHeld self.new.board self.new.given.items }
-    {
-        for n in 0..lines.len() {
-            if !self.is_so(alloc, lines[n])? {
-                return Ok(Some(n));
-            }
-        }
-        Ok(None)
-    }
-
-    // Whether a line is so.
-    fn is_so(&mut self, alloc: Global, line: Line) -> Result<bool, AllocError>
-        requires { AreHeld self.old.board self.old.given.items }
-        ensures { AreHeld self.new.board self.new.given.items }
-    {
-        match line {
-            Line::Makes(step) => self.step(alloc, step),
-            Line::Refuses(step) => Ok(!self.step(alloc, step)?),
-            other => Ok(self.answers(other)),
-        }
-    }
-
-    // Whether the board answers so.
-    fn answers(&self, line: Line) -> bool
-        requires { AreHeld self.now.board self.now.given.items }
-    {
-        match line {
-            Line::Front(p, front) => self.has(p) && self.board.front(p) == front,
-            Line::Allowed(p, allowed) => self.allowed(p) == allowed,
-            Line::Running(p, running) => self.running(p) == running,
-            Line::Holder(p, hold) => self.has(p) && self.board.holder(p) == hold,
-            Line::Holds(counts) => self.board.holds() == counts,
-            Line::Picks(p) => self.board.pick() == p,
-            Line::IsOver(over) => self.board.is_over() == over,
-            Line::IsLost(lost) => self.board.is_lost() == lost,
-            Line::Makes(_) | Line::Refuses(_) => false,
-        }
+        let given = nothing_given(alloc, sample.design.processes.len())?;
+        let tables = Tables::make(alloc, &sample.design)?;
+        let design = Arc::clone(&sample.design)?;
+        let board = Board::make(alloc, design, tables, sample.limits)?;
+        Ok(Trial { board, given })
     }
 
     /// Makes a step, if it is lawful. It answers whether it is.
@@ -179,6 +102,9 @@ impl Trial {
     {
         let mut steps = Vec::new(alloc);
         for p in 0..MOST_PROCESSES {
+            if !self.has(p) {
+                break;
+            }
             if self.allowed(p) {
                 steps.push(Step::Dispatch(p))?;
             }
@@ -189,16 +115,16 @@ impl Trial {
         Ok(steps)
     }
 
-    // Whether there is a process of this number.
-    fn has(&self, p: u32) -> bool
+    /// Whether there is a process of this number.
+    pub(crate) fn has(&self, p: u32) -> bool
         requires { AreHeld self.now.board self.now.given.items }
         ensures { IsTrue result → p < length self.now.board.design.processes }
     {
         (p as usize) < self.given.len()
     }
 
-    // Whether there is such a process, and it may be dispatched.
-    fn allowed(&self, p: u32) -> bool
+    /// Whether there is such a process, and it may be dispatched.
+    pub(crate) fn allowed(&self, p: u32) -> bool
         requires { AreHeld self.now.board self.now.given.items }
         ensures there { IsTrue result → p < length self.now.board.design.processes }
         ensures may { IsTrue result → MayBeDispatched self.now.board p }
@@ -206,8 +132,8 @@ impl Trial {
         self.has(p) && self.board.allowed(p)
     }
 
-    // Whether there is such a process, and a job of it is out that was not abandoned.
-    fn running(&self, p: u32) -> bool
+    /// Whether there is such a process, and a job of it is out that was not abandoned.
+    pub(crate) fn running(&self, p: u32) -> bool
         requires { AreHeld self.now.board self.now.given.items }
         ensures there { IsTrue result → p < length self.now.board.design.processes }
         ensures out { IsTrue result
@@ -216,29 +142,22 @@ impl Trial {
         self.has(p) && self.board.running(p)
     }
 
-    /// The steps that were made.
-    pub(crate) fn schedule(&self) -> &[Step] {
-        self.board.schedule()
-    }
-
-    /// Whether the board is over.
-    pub(crate) fn is_over(&self) -> bool {
-        self.board.is_over()
-    }
-
-    /// Whether the board is over, with this report.
-    pub(crate) fn reports(&self, alloc: Global, wanted: &[u8]) -> Result<bool, AllocError> {
+    /// What the board reports, by these names. None where it isn't over, or speaks of what has no name.
+    pub(crate) fn report(
+        &self,
+        alloc: Global,
+        names: &Names,
+    ) -> Result<Option<Vec<u8>>, AllocError> {
         if !self.board.is_over() {
-            return Ok(false);
+            return Ok(None);
         }
         let run = self.board.finish(alloc)?;
-        if run.channels.len() > self.names.channels.len()
-            || !is_named(run.end, self.names.processes.as_slice())
+        if run.channels.len() > names.channels.len()
+            || !is_named(run.end, names.processes.as_slice())
         {
-            return Ok(false);
+            return Ok(None);
         }
-        let text = report(alloc, &run, &self.names)?;
-        Ok(text.as_slice() == wanted)
+        Ok(Some(report(alloc, &run, names)?))
     }
 }
 

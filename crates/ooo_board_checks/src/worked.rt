@@ -1,7 +1,9 @@
 //! The worked rows: what a board answers between its steps.
 
+use crate::driving::{Told, told_in_orders};
+use crate::lines::Line::{self, Allowed, Front, Holder, Holds, IsOver, Makes, Picks, Refuses};
+use crate::lines::first_wrong;
 use crate::rows::Row;
-use crate::trial::Line::{self, Allowed, Front, Holder, Holds, IsOver, Makes, Picks, Refuses};
 use crate::trial::Trial;
 use ooo_dispatch::Step::{Commit, Dispatch};
 use ooo_fronts::Hold;
@@ -10,13 +12,28 @@ use std::alloc::Global;
 use std::process::Abort;
 use std::test::Fail;
 
+// How many orders are drawn for each row.
+const ORDERS: u32 = 2000;
+
 // The board of a row does all this, and then has the row's report.
 fn follows(rt: &impl Abort, alloc: Global, row: Row, lines: &[Line]) -> Result<(), Fail> {
-    let mut trial = Trial::make(alloc, row)?;
-    let wrong = trial.first_wrong(alloc, lines)?;
+    let Some(sample) = row.sample(alloc)? else {
+        panic!(rt; "{row:?}: the text is refused")
+    };
+    let mut trial = Trial::make(alloc, &sample)?;
+    let wrong = first_wrong(alloc, &mut trial, lines)?;
     assert_eq!(rt; wrong, None, "{row:?}");
-    assert!(rt; trial.reports(alloc, row.report())?, "{row:?}");
+    let report = trial.report(alloc, &sample.names)?;
+    assert!(rt; is_text(&report, row.report()), "{row:?}");
     Ok(())
+}
+
+// Whether there is a text, and it is this.
+fn is_text(text: &Option<Vec<u8>>, wanted: &[u8]) -> bool {
+    match text {
+        Some(text) => text.as_slice() == wanted,
+        None => false,
+    }
 }
 
 // A front at so many picoseconds and delta cycles.
@@ -167,4 +184,20 @@ fn a_fault_cuts_off_what_ran_ahead(rt: HostRuntime) -> Result<(), Fail> {
         IsOver(true),
     ];
     follows(&rt, rt.alloc(), Row::FaultBehind, &lines)
+}
+
+// Each board comes to be over, whatever order is drawn, and reports what the sequential scheduler does.
+#[test]
+fn any_order_gives_the_report(rt: HostRuntime) -> Result<(), Fail> {
+    let alloc = rt.alloc();
+    for row in Row::ALL {
+        let Some(sample) = row.sample(alloc)? else {
+            panic!(rt; "{row:?}: the text is refused")
+        };
+        match told_in_orders(alloc, &sample, ORDERS)? {
+            Told::Same(report) => assert!(rt; report.as_slice() == row.report(), "{row:?}"),
+            Told::Differs(seed) => panic!(rt; "{row:?}, seed {seed}"),
+        }
+    }
+    Ok(())
 }

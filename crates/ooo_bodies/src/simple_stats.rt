@@ -17,7 +17,7 @@ use ooo_checked::{
 };
 use ooo_lexer::Position;
 use ooo_scopes::Scopes;
-use ooo_syntax::{AssignOp, Expr, PrintItem, Simple, Target, TimeForm, Word};
+use ooo_syntax::{AssignOp, Awaited, Expr, PrintItem, Simple, Target, TimeForm, Word};
 use sqlite_items::{Boxed, Items};
 use std::alloc::{AllocError, Global};
 
@@ -317,6 +317,60 @@ fn notify(
     Ok(CheckedSimple::Notify(name, dot, delay))
 }
 
+// The cancelling of a notification.
+fn cancel(
+    alloc: Global,
+    word: &Word,
+    dot: Position,
+    scopes: &Scopes,
+    notes: &mut Notes,
+) -> Result<CheckedSimple, AllocError>
+    ensures tree { IfOk result (λ tree.
+        tree ≡ (simple_of (Simple.Cancel word.now dot) scopes.now).tree) }
+    ensures notes { OnOk result (notes.new
+        ≡ noted notes.old (simple_of (Simple.Cancel word.now dot) scopes.now).notes) }
+{
+    let name = resolve(alloc, scopes, word)?;
+    notes.notifies(name.denotes.thing, word.position, dot);
+    Ok(CheckedSimple::Cancel(name, dot))
+}
+
+// A wait.
+fn wait(
+    alloc: Global,
+    at: Position,
+    what: &Awaited,
+    scopes: &Scopes,
+    notes: &mut Notes,
+) -> Result<CheckedSimple, AllocError>
+    ensures tree { IfOk result (λ tree.
+        tree ≡ (simple_of (Simple.Wait at what.now) scopes.now).tree) }
+    ensures notes { OnOk result (notes.new
+        ≡ noted notes.old (simple_of (Simple.Wait at what.now) scopes.now).notes) }
+{
+    notes.waits(at)?;
+    let what = awaited(alloc, what, scopes, notes)?;
+    Ok(CheckedSimple::Wait(at, what))
+}
+
+// A `next_trigger`.
+fn next_trigger(
+    alloc: Global,
+    at: Position,
+    what: &Awaited,
+    scopes: &Scopes,
+    notes: &mut Notes,
+) -> Result<CheckedSimple, AllocError>
+    ensures tree { IfOk result (λ tree.
+        tree ≡ (simple_of (Simple.NextTrigger at what.now) scopes.now).tree) }
+    ensures notes { OnOk result (notes.new
+        ≡ noted notes.old (simple_of (Simple.NextTrigger at what.now) scopes.now).notes) }
+{
+    notes.triggers(at)?;
+    let what = awaited(alloc, what, scopes, notes)?;
+    Ok(CheckedSimple::NextTrigger(at, what))
+}
+
 /// A simple statement, with what its names denote; what is noted of it is kept.
 ///
 /// # Errors
@@ -346,21 +400,9 @@ pub fn simple_stat(
         Simple::Call(word, args) => call(alloc, word, args, scopes, notes),
         Simple::Member(word, after, arg) => member(alloc, word, after, arg, scopes, notes),
         Simple::Notify(word, dot, delay) => notify(alloc, word, *dot, delay, scopes, notes),
-        Simple::Cancel(word, dot) => {
-            let name = resolve(alloc, scopes, word)?;
-            notes.notifies(name.denotes.thing, word.position, *dot);
-            Ok(CheckedSimple::Cancel(name, *dot))
-        }
-        Simple::Wait(at, what) => {
-            notes.waits(*at)?;
-            let what = awaited(alloc, what, scopes, notes)?;
-            Ok(CheckedSimple::Wait(*at, what))
-        }
-        Simple::NextTrigger(at, what) => {
-            notes.triggers(*at)?;
-            let what = awaited(alloc, what, scopes, notes)?;
-            Ok(CheckedSimple::NextTrigger(*at, what))
-        }
+        Simple::Cancel(word, dot) => cancel(alloc, word, *dot, scopes, notes),
+        Simple::Wait(at, what) => wait(alloc, *at, what, scopes, notes),
+        Simple::NextTrigger(at, what) => next_trigger(alloc, *at, what, scopes, notes),
         Simple::Stop(at) => Ok(CheckedSimple::Stop(*at)),
         Simple::Print(at, is) => {
             let is = items(alloc, is, scopes, notes)?;

@@ -3,3 +3,4 @@ pub mod Decided
 pub mod Told
 pub mod Ticks
 pub mod Blocks
+pub mod Opened

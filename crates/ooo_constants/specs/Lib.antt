@@ -2,3 +2,4 @@ pub mod Meanings
 pub mod Values
 pub mod Times
 pub mod Bodies
+pub mod Bare

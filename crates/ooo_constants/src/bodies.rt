@@ -3,6 +3,7 @@ ghost use Rattle.ooo_constants.specs.Bodies.{body_refusals, simple_refusals, sta
 ghost use Rattle.ooo_constants.specs.Bodies.{else_refusals, step_refusals, stands_before, time_refusals, told, told_of, wait_refusals};
 ghost use Rattle.ooo_constants.specs.Meanings.{constants_of};
 
+use crate::bare::bare;
 use crate::known::Known;
 use crate::times::{TimeBreach, is_fixed_time, place, time};
 use ooo_checked::{CheckedAwaited, CheckedSimple, CheckedStart, CheckedStat, CheckedTime};
@@ -18,9 +19,16 @@ pub struct TimeRefusal {
 
 /// Looks at the constant times of a body: of what is wrong with them, and of what was told before, what stands first in the
 /// text is told.
+pub fn refuse_times(known: Known<'_>, body: &[CheckedStat], told: &mut Option<TimeRefusal>)
+    ensures { told.new ≡ told_of told.old (body_refusals (constants_of known.entry) body.now) }
+{
+    refuse_stats(known, bare(body), told);
+}
+
+// The same of statements one after the other.
 #[cycle(refusals)]
 #[tactic(auto, unfolding(crate::specs::Bodies::stat_refusals), using(crate::proofs::Told::told_of_append))]
-pub fn refuse_times(known: Known<'_>, body: &[CheckedStat], told: &mut Option<TimeRefusal>)
+fn refuse_stats(known: Known<'_>, body: &[CheckedStat], told: &mut Option<TimeRefusal>)
     ensures { told.new ≡ told_of told.old (body_refusals (constants_of known.entry) body.now) }
 {
     'parts: for statement in body {
@@ -35,7 +43,7 @@ fn refuse_stat(known: Known<'_>, statement: &CheckedStat, told: &mut Option<Time
     ensures { told.new ≡ told_of told.old (stat_refusals (constants_of known.entry) statement.now) }
 {
     match statement {
-        CheckedStat::Block(_, body) => refuse_times(known, body.as_slice(), told),
+        CheckedStat::Block(_, body) => refuse_stats(known, body.as_slice(), told),
         CheckedStat::Simple(statement) => refuse_simple(known, statement.get(), told),
         CheckedStat::If(_, _, yes, no) => {
             refuse_stat(known, yes.get(), told);

@@ -2,6 +2,7 @@ ghost use Rattle.std.specs.Prelude.{◌≡◌, [], ◌∷◌, ◌++◌, OnOk};
 ghost use Rattle.ooo_constants.specs.Bodies.{body_calls, declarator_calls, else_calls, initial_calls, right_calls};
 ghost use Rattle.ooo_constants.specs.Bodies.{simple_calls, start_calls, stat_calls, step_calls};
 
+use crate::bare::bare;
 use ooo_checked::{CheckedDeclarator, CheckedExpr, CheckedSimple, CheckedStart, CheckedStat};
 use sqlite_items::Boxed;
 use std::alloc::AllocError;
@@ -11,9 +12,16 @@ use std::alloc::AllocError;
 /// # Errors
 ///
 /// Only where memory runs out; some are added then.
+pub fn add_calls(body: &[CheckedStat], calls: &mut Vec<usize>) -> Result<(), AllocError>
+    ensures { OnOk result (calls.new.items ≡ calls.old.items ++ body_calls body.now) }
+{
+    add_stats(bare(body), calls)
+}
+
+// Adds those of statements one after the other.
 #[cycle(calls)]
 #[tactic(auto, unfolding(crate::specs::Bodies::stat_calls), using(crate::proofs::Blocks::calls_of_block, crate::proofs::Blocks::calls_of_if, crate::proofs::Blocks::calls_of_for))]
-pub fn add_calls(body: &[CheckedStat], calls: &mut Vec<usize>) -> Result<(), AllocError>
+fn add_stats(body: &[CheckedStat], calls: &mut Vec<usize>) -> Result<(), AllocError>
     ensures { OnOk result (calls.new.items ≡ calls.old.items ++ body_calls body.now) }
 {
     'parts: for statement in body {
@@ -29,7 +37,7 @@ fn add_stat(statement: &CheckedStat, calls: &mut Vec<usize>) -> Result<(), Alloc
     ensures { OnOk result (calls.new.items ≡ calls.old.items ++ stat_calls statement.now) }
 {
     match statement {
-        CheckedStat::Block(_, body) => add_calls(body.as_slice(), calls),
+        CheckedStat::Block(_, body) => add_stats(body.as_slice(), calls),
         CheckedStat::Local(local) => add_declarators(local.get().names.as_slice(), calls),
         CheckedStat::Simple(statement) => add_simple(statement.get(), calls),
         CheckedStat::If(_, _, yes, no) => {

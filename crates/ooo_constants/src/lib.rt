@@ -5,6 +5,7 @@
 //! times, `Bodies` of bodies. [`add_calls`] alone takes memory, and may fail for want of it.
 #![tactic(auto)]
 
+mod bare;
 mod bodies;
 mod calls;
 mod kinds;

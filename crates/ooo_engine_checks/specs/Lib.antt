@@ -1,2 +1,1 @@
 pub mod SmallJob
-pub mod Trials

@@ -1,5 +1,5 @@
 -- The loops of the code: the levels of an expression, and lists.
-use Rattle.std.proofs.Common.{if◌then◌else◌, ◌≡◌, arith, ℕ, zero, suc, ◌+◌, ◌-◌, ◌<◌, ◌≤◌, Bool, true, false, List, [], ◌∷◌, length, Option, Some, None, is_some, refl, sym, ap, ◌∙◌, subst}
+use Rattle.std.proofs.Common.{if◌then◌else◌, ◌≡◌, arith, ℕ, zero, suc, ◌+◌, ◌-◌, ◌<◌, ◌≤◌, Bool, true, false, List, [], ◌∷◌, length, Option, Some, None, is_some, ◌⊎◌, inl, inr, refl, sym, ap, ◌∙◌, subst}
 use Rattle.std.specs.Prelude.{drop, Result}
 use Rattle.std.specs.Borrow.{Bor}
 use Rattle.ooo_syntax.specs.declared.symbol.Symbol.{Symbol}
@@ -20,9 +20,9 @@ use Rattle.ooo_grammar.specs.Combinators.{signs_of, Table, rows, terminals_of, a
 use Rattle.ooo_grammar.specs.Expressions.{binary_levels, sum_levels, counted_sum, whole_expression, plain_expression, inside_expression, expression, unary, plain_unary, operand, converted, chosen}
 use Rattle.ooo_grammar.specs.Readings.{Room, fits, reader}
 use Rattle.ooo_grammar.specs.Gives.{Gives, Stops, reads_at, room_at}
-use Rattle.ooo_exprs.specs.Levels.{turn, op_levels, levels_r, level_r, op_in, op_at, kinds_in, kinds_at, first_r, level_at, others_of, is_inside, expression_r, turn_at}
+use Rattle.ooo_exprs.specs.Levels.{turn, op_levels, levels_r, level_r, op_in, op_at, kinds_in, kinds_at, first_r, level_at, others_of, is_inside, chosen_r, expression_r, turn_at}
 use Rattle.std.proofs.lemmas.Bool.{and_parts}
-use Rattle.ooo_grammar.specs.Steps.{stops_first}
+use Rattle.ooo_grammar.specs.Steps.{stops_first, deeper_gives}
 
 if_true : {A : Type 0} (b : Bool) (x y : A) → b ≡ true → (if b then x else y) ≡ x
 if_true b x y e = rw e refl
@@ -183,3 +183,8 @@ pub level_goes_on : (l m : Limits) (x : First) (k : ℕ) (o : Outcome Expr) (n i
     → m.levels ≡ op_levels (is_inside x) l.levels → m.bound ≡ l.bound → true ≡ fits m.levels (room_at m.bound) t → level_at l (others_of x) (k + 1) later ≡ Got b more → o ≡ repeats_in (in_set (kinds_at k)) (turn_at l x k) i (expr.Binary p a b) more
 level_goes_on l m x k o n i a b t rest later more p h q j s u v w d =
     h ∙ one_turn (in_set (kinds_at k)) (fits (op_levels (is_inside x) l.levels) (room_at l.bound)) (op_at k) (op_same k) _ n i a b t rest later more p q j s (may_is l m x t true u v w) (ap (λ r. r later) (sym (others_level l x (k + 1))) ∙ d)
+
+-- what follows a condition that stands inside a bracket
+pub chosen_inside : (l m : Limits) (x : First) (a : Expr) (ts : List Symbol) (r : Result (Expr × Bor (List Symbol)) ReadError) → ((t : TypeName) × x ≡ first.Converted t) ⊎ (x ≡ first.Operand) → m.levels ≡ l.levels - 1 → m.bound ≡ l.bound → Gives (reads_at m (chosen a) ts) r → Gives (chosen_r l x a ts) r
+chosen_inside l m x a ts r (inl (t, e)) i j h = subst (λ x. Gives (chosen_r l x a ts) r) (sym e) (deeper_gives l m (chosen a) ts r i j h)
+chosen_inside l m x a ts r (inr e) i j h = subst (λ x. Gives (chosen_r l x a ts) r) (sym e) (deeper_gives l m (chosen a) ts r i j h)

@@ -1,11 +1,12 @@
-ghost use Rattle.std.specs.Prelude.{◌≡◌, ◌∷◌, ◌++◌, [], ◌≤◌, IfOk, Some};
+ghost use Rattle.std.specs.Prelude.{◌≡◌, ◌∷◌, ◌++◌, [], ◌≤◌, IfOk, refl};
 ghost use Rattle.ooo_grammar.specs.Codes.{deeper};
-ghost use Rattle.ooo_grammar.specs.Combinators.{quoted, to};
+ghost use Rattle.ooo_grammar.specs.Combinators.{in_parens, led, optional, quoted, to};
 ghost use Rattle.ooo_grammar.specs.Expressions.{after_open, after_short_type, after_unsigned_cast, after_word, arguments, bracketed, cast_to, chosen, conversion, conversion_first, converted, expressions, index, inner, inner_plain, inside_expression, long_cast, member_call, named, numeral, operand, parenthesis, plain_expression, plain_unary, prefixed, prefixed_by, short_type, some_expressions, truth, unary, whole_expression};
-ghost use Rattle.ooo_grammar.specs.Lexis.{long_after, plain_type};
+ghost use Rattle.ooo_grammar.specs.Lexis.{long_after, named_type, plain_type};
 ghost use Rattle.ooo_grammar.specs.Gives.{Gives, reads_at};
 ghost use Rattle.ooo_exprs.specs.Levels.{expression_r, first_r, is_inside, item_step, level_at, op_levels, others_of};
 
+use crate::keeping::discard;
 use crate::signs::{
     begins_with_expression, begins_with_plain, begins_with_prefix, begins_with_short_type,
     begins_with_truth, op_of_level,
@@ -40,20 +41,6 @@ pub(crate) fn boxed(alloc: Global, e: Expr) -> Result<Boxed<Expr>, AllocError>
     Boxed::new(alloc, e)
 }
 
-fn indexed(alloc: Global, word: Word, at: Expr) -> Result<Expr, AllocError>
-    ensures { IfOk result (λ e. e ≡ Expr.Index word at) }
-{
-    let at = keeping!(word; boxed(alloc, at));
-    Ok(Expr::Index(word, at))
-}
-
-fn called(alloc: Global, word: Word, member: Word, value: Expr) -> Result<Expr, AllocError>
-    ensures { IfOk result (λ e. e ≡ Expr.Member word member (Some value)) }
-{
-    let value = keeping!(word, member; boxed(alloc, value));
-    Ok(Expr::Member(word, member, Some(value)))
-}
-
 fn with(mut list: Items<Expr>, more: Expr) -> Result<Items<Expr>, AllocError>
     ensures { IfOk result (λ all. all ≡ list ++ more ∷ []) }
 {
@@ -86,13 +73,18 @@ pub(crate) fn read_inner<'a>(
     Err(ReadError::Syntax(tokens.len()))
 }
 
-// The same, one level deeper.
+// The same, onto the heap.
 #[cycle(read)]
-#[tactic(auto, using(ooo_grammar::specs::Steps::deeper_gives))]
-fn read_inner_inside<'a>(alloc: Global, tokens: &'a [Symbol<'a>], limits: Limits) -> Read<'a, Expr>
-    ensures { Gives (reads_at limits (deeper inner) tokens.now) result }
+#[tactic(auto, using(ooo_grammar::specs::Steps::steps))]
+pub(crate) fn read_boxed_inner<'a>(
+    alloc: Global,
+    tokens: &'a [Symbol<'a>],
+    limits: Limits,
+) -> Read<'a, Boxed<Expr>>
+    ensures { Gives (reads_at limits inner tokens.now) result }
 {
-    read_inner(alloc, tokens, limits.inside())
+    let (of, rest) = got!(read_inner(alloc, tokens, limits));
+    Ok((boxed(alloc, of)?, rest))
 }
 
 // The operand of a prefix or a cast.
@@ -122,9 +114,8 @@ fn read_index<'a>(
     ensures { Gives (reads_at limits (index word) tokens.now) result }
 {
     let (_, rest) = keeping!(word; one(tokens, Terminal::OpenBracket, limits));
-    let (at, rest) = keeping!(word; read_inner(alloc, rest, limits));
-    let (at, rest) = keeping!(word; followed(at, Terminal::CloseBracket, rest, limits));
-    Ok((indexed(alloc, word, at)?, rest))
+    let (at, rest) = keeping!(word; read_boxed_inner(alloc, rest, limits));
+    followed(Expr::Index(word, at), Terminal::CloseBracket, rest, limits)
 }
 
 // Arguments in parentheses.
@@ -137,8 +128,8 @@ fn read_arguments<'a>(
 ) -> Read<'a, Items<Expr>>
     ensures { Gives (reads_at limits arguments tokens.now) result }
 {
-    let (_, rest) = one(tokens, Terminal::Open, limits)?;
-    let (list, rest) = read_expressions(alloc, rest, limits)?;
+    let (_, rest) = got!(one(tokens, Terminal::Open, limits));
+    let (list, rest) = got!(read_expressions(alloc, rest, limits));
     followed(list, Terminal::Close, rest, limits)
 }
 
@@ -180,18 +171,35 @@ fn read_item<'a>(
 fn read_some<'a>(alloc: Global, tokens: &'a [Symbol<'a>], limits: Limits) -> Read<'a, Items<Expr>>
     ensures { Gives (reads_at limits some_expressions tokens.now) result }
 {
-    let (item, mut rest) = read_inner(alloc, tokens, limits)?;
-    let mut list = Items::new(alloc);
-    list.push(item)?;
+    let (item, mut rest) = got!(read_inner(alloc, tokens, limits));
+    let mut list = with(Items::new(alloc), item)?;
     'turns: for _turn in 0..rest.len() {
         if !starts(rest, Terminal::Comma) {
             return Ok((list, rest));
         }
-        let (more, after) = read_item(alloc, list, rest, limits)?;
+        let (more, after) = got!(read_item(alloc, list, rest, limits));
         list = more;
         rest = after;
     }
     Ok((list, rest))
+}
+
+// An expression or nothing in parentheses.
+#[cycle(read)]
+#[tactic(auto, using(ooo_grammar::specs::Steps::steps))]
+fn read_option_in_parens<'a>(
+    alloc: Global,
+    tokens: &'a [Symbol<'a>],
+    limits: Limits,
+) -> Read<'a, Option<Boxed<Expr>>>
+    ensures { Gives (reads_at limits (in_parens (optional inner) refl) tokens.now) result }
+{
+    let (_, rest) = got!(one(tokens, Terminal::Open, limits));
+    if !begins_with_expression(rest) {
+        return followed(None, Terminal::Close, rest, limits);
+    }
+    let (value, rest) = got!(read_boxed_inner(alloc, rest, limits));
+    followed(Some(value), Terminal::Close, rest, limits)
 }
 
 // A call of a member, after the word.
@@ -207,14 +215,8 @@ fn read_member<'a>(
 {
     let (_, rest) = keeping!(word; one(tokens, Terminal::Dot, limits));
     let (member, rest) = keeping!(word; read_member_word(alloc, rest, limits));
-    let (_, rest) = keeping!(word, member; one(rest, Terminal::Open, limits));
-    if !begins_with_expression(rest) {
-        let (_, rest) = keeping!(word, member; one(rest, Terminal::Close, limits));
-        return Ok((Expr::Member(word, member, None), rest));
-    }
-    let (value, rest) = keeping!(word, member; read_inner(alloc, rest, limits));
-    let (value, rest) = keeping!(word, member; followed(value, Terminal::Close, rest, limits));
-    Ok((called(alloc, word, member, value)?, rest))
+    let (value, rest) = keeping!(word, member; read_option_in_parens(alloc, rest, limits));
+    Ok((Expr::Member(word, member, value), rest))
 }
 
 // What follows a word.
@@ -247,24 +249,25 @@ fn read_after_word<'a>(
 fn read_named<'a>(alloc: Global, tokens: &'a [Symbol<'a>], limits: Limits) -> Read<'a, Expr>
     ensures { Gives (reads_at limits named tokens.now) result }
 {
-    let (word, rest) = read_word(alloc, tokens, limits)?;
+    let (word, rest) = got!(read_word(alloc, tokens, limits));
     read_after_word(alloc, word, rest, limits)
 }
 
-// The operand of a prefix, after its sign.
+// A prefix by its sign, and its operand.
 #[cycle(read)]
 #[tactic(auto, using(ooo_grammar::specs::Steps::steps), unfolding(ooo_grammar::specs::Expressions::prefixed_by))]
 fn read_prefixed_by<'a>(
     alloc: Global,
     op: PrefixOp,
-    sign: Mark,
+    sign: Terminal,
     tokens: &'a [Symbol<'a>],
     limits: Limits,
 ) -> Read<'a, Expr>
-    ensures { Gives (reads_at limits (prefixed_by op sign) tokens.now) result }
+    ensures { Gives (reads_at limits (led sign (prefixed_by op)) tokens.now) result }
 {
-    let (of, rest) = read_operand(alloc, tokens, limits)?;
-    Ok((Expr::Prefix(sign.position, op, boxed(alloc, of)?), rest))
+    let (mark, rest) = got!(one(tokens, sign, limits));
+    let (of, rest) = got!(read_operand(alloc, rest, limits));
+    Ok((Expr::Prefix(mark.position, op, boxed(alloc, of)?), rest))
 }
 
 // A prefix and its operand.
@@ -274,19 +277,15 @@ fn read_prefixed<'a>(alloc: Global, tokens: &'a [Symbol<'a>], limits: Limits) ->
     ensures { Gives (reads_at limits prefixed tokens.now) result }
 {
     if starts(tokens, Terminal::Not) {
-        let (sign, rest) = one(tokens, Terminal::Not, limits)?;
-        return read_prefixed_by(alloc, PrefixOp::Not, sign, rest, limits);
+        return read_prefixed_by(alloc, PrefixOp::Not, Terminal::Not, tokens, limits);
     }
     if starts(tokens, Terminal::Tilde) {
-        let (sign, rest) = one(tokens, Terminal::Tilde, limits)?;
-        return read_prefixed_by(alloc, PrefixOp::Invert, sign, rest, limits);
+        return read_prefixed_by(alloc, PrefixOp::Invert, Terminal::Tilde, tokens, limits);
     }
     if starts(tokens, Terminal::Minus) {
-        let (sign, rest) = one(tokens, Terminal::Minus, limits)?;
-        return read_prefixed_by(alloc, PrefixOp::Negate, sign, rest, limits);
+        return read_prefixed_by(alloc, PrefixOp::Negate, Terminal::Minus, tokens, limits);
     }
-    let (sign, rest) = one(tokens, Terminal::Plus, limits)?;
-    read_prefixed_by(alloc, PrefixOp::Keep, sign, rest, limits)
+    read_prefixed_by(alloc, PrefixOp::Keep, Terminal::Plus, tokens, limits)
 }
 
 // What follows a condition, if a `?` does.
@@ -303,20 +302,12 @@ fn read_chosen<'a>(
     if !starts(tokens, Terminal::Question) {
         return Ok((condition, tokens));
     }
+    let condition = boxed(alloc, condition)?;
     let (_, rest) = keeping!(condition; one(tokens, Terminal::Question, limits));
-    let (yes, rest) = keeping!(condition; read_inner(alloc, rest, limits));
+    let (yes, rest) = keeping!(condition; read_boxed_inner(alloc, rest, limits));
     let (_, rest) = keeping!(condition, yes; one_inside(rest, Terminal::Colon, limits));
-    let (no, rest) = keeping!(condition, yes; read_inner(alloc, rest, limits));
-    Ok((choose(alloc, condition, yes, no)?, rest))
-}
-
-fn choose(alloc: Global, condition: Expr, yes: Expr, no: Expr) -> Result<Expr, AllocError>
-    ensures { IfOk result (λ e. e ≡ Expr.Choose condition yes no) }
-{
-    let condition = keeping!(yes, no; boxed(alloc, condition));
-    let yes = keeping!(condition, no; boxed(alloc, yes));
-    let no = keeping!(condition, yes; boxed(alloc, no));
-    Ok(Expr::Choose(condition, yes, no))
+    let (no, rest) = keeping!(condition, yes; read_boxed_inner(alloc, rest, limits));
+    Ok((Expr::Choose(condition, yes, no), rest))
 }
 
 /// The operand that an expression begins with.
@@ -375,7 +366,7 @@ pub(crate) fn read_level<'a>(
     if number >= 10 {
         return read_first(alloc, first, tokens, limits);
     }
-    let (mut left, mut rest) = read_level(alloc, tokens, first, number + 1, limits)?;
+    let (mut left, mut rest) = got!(read_level(alloc, tokens, first, number + 1, limits));
     let signs = op_limits(first, limits);
     'turns: for _turn in 0..rest.len() {
         let Some((token, after)) = next(rest) else {
@@ -385,9 +376,11 @@ pub(crate) fn read_level<'a>(
             return Ok((left, rest));
         };
         if !signs.fit(token) {
+            discard(left);
             return Err(ReadError::TooDeep(rest.len()));
         }
-        let (right, more) = read_level(alloc, after, others(first), number + 1, limits)?;
+        let (right, more) =
+            keeping!(left; read_level(alloc, after, others(first), number + 1, limits));
         left = binary(alloc, op, left, right)?;
         rest = more;
     }
@@ -408,7 +401,7 @@ fn read_first<'a>(
     match first {
         First::Any => read_unary(alloc, tokens, limits),
         First::Plain => read_plain_unary(alloc, tokens, limits),
-        First::Converted(form) => read_converted_inside(alloc, form, tokens, limits),
+        First::Converted(form) => read_converted(alloc, form, tokens, limits.inside()),
         First::Operand => read_operand(alloc, tokens, limits),
     }
 }
@@ -424,10 +417,9 @@ fn read_converted<'a>(
 ) -> Read<'a, Expr>
     ensures { Gives (reads_at limits (converted form) tokens.now) result }
 {
-    let (_, rest) = one(tokens, Terminal::Open, limits)?;
-    let (of, rest) = read_inner_inside(alloc, rest, limits)?;
-    let (of, rest) = followed(of, Terminal::Close, rest, limits)?;
-    Ok((Expr::Conversion(form, boxed(alloc, of)?), rest))
+    let (_, rest) = got!(one(tokens, Terminal::Open, limits));
+    let (of, rest) = got!(read_boxed_inner(alloc, rest, limits.inside()));
+    followed(Expr::Conversion(form, of), Terminal::Close, rest, limits)
 }
 
 // An expression by its first operand.
@@ -441,10 +433,12 @@ fn read_expression<'a>(
 ) -> Read<'a, Expr>
     ensures { Gives (expression_r limits first tokens.now) result }
 {
-    let (condition, rest) = read_level(alloc, tokens, first, 0, limits)?;
+    let (condition, rest) = got!(read_level(alloc, tokens, first, 0, limits));
     match first {
         First::Any | First::Plain => read_chosen(alloc, condition, rest, limits),
-        First::Converted(_) | First::Operand => read_chosen_inside(alloc, condition, rest, limits),
+        First::Converted(_) | First::Operand => {
+            read_chosen(alloc, condition, rest, limits.inside())
+        }
     }
 }
 
@@ -511,37 +505,9 @@ fn read_cast_to<'a>(
 ) -> Read<'a, Expr>
     ensures { Gives (reads_at limits (cast_to opening form) tokens.now) result }
 {
-    let (_, rest) = one(tokens, Terminal::Close, limits)?;
-    let (of, rest) = read_operand(alloc, rest, limits)?;
+    let (_, rest) = got!(one(tokens, Terminal::Close, limits));
+    let (of, rest) = got!(read_operand(alloc, rest, limits));
     Ok((Expr::Cast(opening.position, form, boxed(alloc, of)?), rest))
-}
-
-// What follows a condition, one level deeper.
-#[cycle(read)]
-#[tactic(auto, using(ooo_grammar::specs::Steps::deeper_gives))]
-fn read_chosen_inside<'a>(
-    alloc: Global,
-    condition: Expr,
-    tokens: &'a [Symbol<'a>],
-    limits: Limits,
-) -> Read<'a, Expr>
-    ensures { Gives (reads_at limits (deeper (chosen condition)) tokens.now) result }
-{
-    read_chosen(alloc, condition, tokens, limits.inside())
-}
-
-// What a conversion converts, one level deeper.
-#[cycle(read)]
-#[tactic(auto, using(ooo_grammar::specs::Steps::deeper_gives))]
-fn read_converted_inside<'a>(
-    alloc: Global,
-    form: TypeName,
-    tokens: &'a [Symbol<'a>],
-    limits: Limits,
-) -> Read<'a, Expr>
-    ensures { Gives (reads_at limits (deeper (converted form)) tokens.now) result }
-{
-    read_converted(alloc, form, tokens, limits.inside())
 }
 
 // What follows the first `long` of a type, one level deeper.
@@ -569,9 +535,9 @@ fn read_conversion_first<'a>(
 ) -> Read<'a, Expr>
     ensures { Gives (reads_at limits (conversion_first opening form) tokens.now) result }
 {
-    let (of, rest) = read_inside(alloc, form, tokens, limits)?;
-    let (of, rest) = followed(of, Terminal::Close, rest, limits)?;
-    Ok((parenthesized(alloc, opening, of)?, rest))
+    let (of, rest) = got!(read_inside(alloc, form, tokens, limits));
+    let found = parenthesized(alloc, opening, of)?;
+    followed(found, Terminal::Close, rest, limits)
 }
 
 // What follows `(` and a type of one word.
@@ -606,7 +572,7 @@ fn read_long_cast<'a>(
 ) -> Read<'a, Expr>
     ensures { Gives (reads_at limits (long_cast opening word bare full) tokens.now) result }
 {
-    let (form, rest) = read_long_inside(bare, full, tokens, limits)?;
+    let (form, rest) = got!(read_long_inside(bare, full, tokens, limits));
     read_cast_to(alloc, opening, named_type(word, form), rest, limits)
 }
 
@@ -623,7 +589,7 @@ fn read_after_unsigned_cast<'a>(
     ensures { Gives (reads_at limits (after_unsigned_cast opening word) tokens.now) result }
 {
     if starts(tokens, Terminal::Int) {
-        let (_, rest) = one_inside(tokens, Terminal::Int, limits)?;
+        let (_, rest) = got!(one_inside(tokens, Terminal::Int, limits));
         return read_cast_to(
             alloc,
             opening,
@@ -633,7 +599,7 @@ fn read_after_unsigned_cast<'a>(
         );
     }
     if starts(tokens, Terminal::Long) {
-        let (_, rest) = one_inside(tokens, Terminal::Long, limits)?;
+        let (_, rest) = got!(one_inside(tokens, Terminal::Long, limits));
         return read_long_cast(
             alloc,
             opening,
@@ -672,9 +638,9 @@ fn read_parenthesis<'a>(
 ) -> Read<'a, Expr>
     ensures { Gives (reads_at limits (parenthesis opening) tokens.now) result }
 {
-    let (of, rest) = read_inner_plain(alloc, tokens, limits)?;
-    let (of, rest) = followed(of, Terminal::Close, rest, limits)?;
-    Ok((parenthesized(alloc, opening, of)?, rest))
+    let (of, rest) = got!(read_inner_plain(alloc, tokens, limits));
+    let found = parenthesized(alloc, opening, of)?;
+    followed(found, Terminal::Close, rest, limits)
 }
 
 // What follows `(`.
@@ -689,15 +655,15 @@ fn read_after_open<'a>(
     ensures { Gives (reads_at limits (after_open opening) tokens.now) result }
 {
     if begins_with_plain_type(tokens) {
-        let (form, rest) = read_plain_type_inside(tokens, limits)?;
+        let (form, rest) = got!(read_plain_type_inside(tokens, limits));
         return read_after_short_type(alloc, opening, form, rest, limits);
     }
     if starts(tokens, Terminal::Unsigned) {
-        let (word, rest) = one_inside(tokens, Terminal::Unsigned, limits)?;
+        let (word, rest) = got!(one_inside(tokens, Terminal::Unsigned, limits));
         return read_after_unsigned_cast(alloc, opening, word, rest, limits);
     }
     if starts(tokens, Terminal::Long) {
-        let (word, rest) = one_inside(tokens, Terminal::Long, limits)?;
+        let (word, rest) = got!(one_inside(tokens, Terminal::Long, limits));
         return read_long_cast(
             alloc,
             opening,
@@ -717,8 +683,22 @@ fn read_after_open<'a>(
 fn read_bracketed<'a>(alloc: Global, tokens: &'a [Symbol<'a>], limits: Limits) -> Read<'a, Expr>
     ensures { Gives (reads_at limits bracketed tokens.now) result }
 {
-    let (opening, rest) = one(tokens, Terminal::Open, limits)?;
+    let (opening, rest) = got!(one(tokens, Terminal::Open, limits));
     read_after_open(alloc, opening, rest, limits)
+}
+
+// The word of a type that has no other.
+#[tactic(auto, using(ooo_grammar::specs::Steps::steps))]
+fn read_type_word<'a>(
+    form: TypeForm,
+    key: Terminal,
+    tokens: &'a [Symbol<'a>],
+    limits: Limits,
+) -> Read<'a, TypeName>
+    ensures { Gives (reads_at limits (to (λ k. named_type k form) (quoted key)) tokens.now) result }
+{
+    let (mark, rest) = got!(one(tokens, key, limits));
+    Ok((named_type(mark, form), rest))
 }
 
 // A type of one word.
@@ -727,15 +707,12 @@ fn read_short_type<'a>(tokens: &'a [Symbol<'a>], limits: Limits) -> Read<'a, Typ
     ensures { Gives (reads_at limits short_type tokens.now) result }
 {
     if starts(tokens, Terminal::Bool) {
-        let (word, rest) = one(tokens, Terminal::Bool, limits)?;
-        return Ok((named_type(word, TypeForm::Bool), rest));
+        return read_type_word(TypeForm::Bool, Terminal::Bool, tokens, limits);
     }
     if starts(tokens, Terminal::Int) {
-        let (word, rest) = one(tokens, Terminal::Int, limits)?;
-        return Ok((named_type(word, TypeForm::Int), rest));
+        return read_type_word(TypeForm::Int, Terminal::Int, tokens, limits);
     }
-    let (word, rest) = one(tokens, Terminal::Unsigned, limits)?;
-    Ok((named_type(word, TypeForm::Unsigned), rest))
+    read_type_word(TypeForm::Unsigned, Terminal::Unsigned, tokens, limits)
 }
 
 // A conversion.
@@ -744,7 +721,7 @@ fn read_short_type<'a>(tokens: &'a [Symbol<'a>], limits: Limits) -> Read<'a, Typ
 fn read_conversion<'a>(alloc: Global, tokens: &'a [Symbol<'a>], limits: Limits) -> Read<'a, Expr>
     ensures { Gives (reads_at limits conversion tokens.now) result }
 {
-    let (form, rest) = read_short_type(tokens, limits)?;
+    let (form, rest) = got!(read_short_type(tokens, limits));
     read_converted(alloc, form, rest, limits)
 }
 
@@ -753,7 +730,7 @@ fn read_conversion<'a>(alloc: Global, tokens: &'a [Symbol<'a>], limits: Limits) 
 fn read_numeral<'a>(tokens: &'a [Symbol<'a>], limits: Limits) -> Read<'a, Expr>
     ensures { Gives (reads_at limits numeral tokens.now) result }
 {
-    let (number, rest) = read_literal(tokens, limits)?;
+    let (number, rest) = got!(read_literal(tokens, limits));
     Ok((Expr::Number(number), rest))
 }
 
@@ -763,10 +740,10 @@ fn read_truth<'a>(tokens: &'a [Symbol<'a>], limits: Limits) -> Read<'a, Expr>
     ensures { Gives (reads_at limits truth tokens.now) result }
 {
     if starts(tokens, Terminal::True) {
-        let (word, rest) = one(tokens, Terminal::True, limits)?;
+        let (word, rest) = got!(one(tokens, Terminal::True, limits));
         return Ok((Expr::Truth(true, word.position), rest));
     }
-    let (word, rest) = one(tokens, Terminal::False, limits)?;
+    let (word, rest) = got!(one(tokens, Terminal::False, limits));
     Ok((Expr::Truth(false, word.position), rest))
 }
 

@@ -14,6 +14,16 @@ macro_rules! keeping {
     };
 }
 
+// What was read, or the refusal of it: of a `?`, the walk of a large value costs twice as much.
+macro_rules! got {
+    ($read:expr) => {
+        match $read {
+            Ok(found) => found,
+            Err(error) => return Err(error),
+        }
+    };
+}
+
 mod expressions;
 mod keeping;
 mod own;

@@ -1,8 +1,7 @@
-ghost use Rattle.std.specs.Prelude.{◌≡◌};
 ghost use Rattle.ooo_grammar.specs.Expressions.{counted_sum, inner_value, sum, value};
 ghost use Rattle.ooo_grammar.specs.Gives.{Gives, reads_at};
 
-use crate::expressions::{First, boxed, read_inner, read_level, read_whole};
+use crate::expressions::{First, boxed, read_boxed_inner, read_inner, read_level, read_whole};
 use ooo_grammar::{Limits, Read};
 use ooo_syntax::{Expr, Symbol};
 use sqlite_items::Boxed;
@@ -37,12 +36,12 @@ pub fn read_boxed_value<'a>(
 ) -> Read<'a, Boxed<Expr>>
     ensures { Gives (reads_at limits value tokens.now) result }
 {
-    let (found, rest) = read_value(alloc, tokens, limits)?;
+    let (found, rest) = got!(read_value(alloc, tokens, limits));
     Ok((boxed(alloc, found)?, rest))
 }
 
 /// The same, one level deeper.
-#[tactic(auto, using(ooo_grammar::specs::Steps::steps))]
+#[tactic(auto, using(ooo_grammar::specs::Steps::outermost_gives), unfolding(ooo_grammar::specs::Expressions::inner_value))]
 pub fn read_boxed_inner_value<'a>(
     alloc: Global,
     tokens: &'a [Symbol<'a>],
@@ -50,8 +49,7 @@ pub fn read_boxed_inner_value<'a>(
 ) -> Read<'a, Boxed<Expr>>
     ensures { Gives (reads_at limits inner_value tokens.now) result }
 {
-    let (found, rest) = read_inner_value(alloc, tokens, limits)?;
-    Ok((boxed(alloc, found)?, rest))
+    read_boxed_inner(alloc, tokens, limits.enter(tokens))
 }
 
 // The level `sum`, without a bound of its own.

@@ -196,12 +196,15 @@ fit_set t fronts p front lt fit new q f e = elim (eqb_tells q p) [
 
 -- ---- as they are kept
 
-module _ (kept : Kept) (fronts : List (Option Front)) (counts : List ℕ) (view : record { fronts = fronts; counts = counts } ≡ kept) where
+module _ (kept : Kept) (fronts : List (Option Front)) (counts holds : List ℕ) (view : record { fronts = fronts; counts = counts; holds = holds } ≡ kept) where
   pub same_fronts : kept.fronts ≡ fronts
   same_fronts = sym (ap (λ (k : Kept). k.fronts) view)
 
   pub same_counts : kept.counts ≡ counts
   same_counts = sym (ap (λ (k : Kept). k.counts) view)
+
+  pub same_holds : kept.holds ≡ holds
+  same_holds = sym (ap (λ (k : Kept). k.holds) view)
 
   -- a front that was read
   pub front_read : (p : ℕ) (x : Option Front) → p < length kept.fronts → x ≡ get_or fronts p x → get_or kept.fronts p None ≡ x

@@ -10,6 +10,7 @@ pub mod Timing
 pub mod Meeting
 pub mod Counted
 pub mod Mending
+pub mod Entries
 pub mod Ruling
 pub mod Earliest
 pub mod Firsts

@@ -68,6 +68,14 @@ module _ (t : Tables) (p : ℕ) (before after : List (Option Front)) (xs : List 
     others = λ k ne out. h.each k;
   }
 
+  -- that of process p may change
+  pub mended_but : (counts : List ℕ) (n : ℕ) → length before ≡ length after → AreCounts t before counts → AreMended t p before after xs 0 (set counts p n)
+  mended_but counts n same h = record {
+    count = length-set counts p n ∙ h.count ∙ same;
+    mended = λ k j ne lt below e. absurd (omega arith);
+    others = λ k ne out. get_or-set_other counts p k n 0 ne ∙ h.each k;
+  }
+
   -- the next process was not mended so far
   pub mended_next : (i : ℕ) (counts : List ℕ) → AreAscending xs → i < length xs → AreMended t p before after xs i counts → get_or xs i 0 ≢ p → get_or counts (get_or xs i 0) 0 ≡ held t before (get_or xs i 0)
   mended_next i counts up lt h ne = h.others (get_or xs i 0) ne (λ j below within e. let less = up j i 0 below lt in omega arith)
@@ -97,6 +105,16 @@ module _ (t : Tables) (p : ℕ) (before after : List (Option Front)) (xs : List 
   ]
 
   -- with that of process p
+  pub counts_and : (i : ℕ) (counts : List ℕ) → length xs ≤ i → AreMended t p before after xs i counts → ((k : ℕ) → k ≢ p → (Contains xs k → ⊥) → held t before k ≡ held t after k) →
+      get_or counts p 0 ≡ held t after p → AreCounts t after counts
+  counts_and i counts le h alike e = record {
+    count = h.count;
+    each = λ k. elim (cases_eq k p) [
+      | inl same ↦ ap (λ m. get_or counts m 0) same ∙ e ∙ ap (held t after) (sym same)
+      | inr other ↦ mended_all i counts le h alike k other
+    ];
+  }
+
   pub counts_with : (i : ℕ) (counts : List ℕ) (n : ℕ) → length xs ≤ i → p < length after → AreMended t p before after xs i counts → ((k : ℕ) → k ≢ p → (Contains xs k → ⊥) → held t before k ≡ held t after k) →
       n ≡ held t after p → AreCounts t after (set counts p n)
   counts_with i counts n le lt h alike e = record {

@@ -56,10 +56,12 @@ pub record AreAligned (t : Tables) : Type 0 where
   pub advance : length t.advance ≡ length t.graph.segments
   pub addable : All AreAddable t.advance
 
--- the fronts of all processes, and how many clashes hold each of them up
+-- the fronts of all processes, how many clashes hold each of them up, and a table with a row of each process: by how many segments its
+-- front holds up that of each
 pub record Kept : Type 0 where
   pub fronts : List (Option Front)
   pub counts : List ℕ
+  pub holds : List ℕ
 
 -- the earliest stamp of these fronts; none where there is no front
 abbrev pub IsLeastOf : List (Option Front) → Option Stamp → Type 0

@@ -1,5 +1,5 @@
 -- What holds a front up, and how many clashes do.
-use Rattle.std.specs.Prelude.{◌≡◌, ◌≢◌, ℕ, zero, suc, ◌+◌, ◌<◌, ◌⊎◌, ◌==◌, nat_lt, List, Option, None, Some, is_some, length, Bool, true, false, ◌&&◌, if◌then◌else◌, slice_index_or, Contains}
+use Rattle.std.specs.Prelude.{◌≡◌, ◌≢◌, ℕ, zero, suc, ◌+◌, ◌*◌, ◌<◌, ◌⊎◌, ◌==◌, nat_lt, List, Option, None, Some, is_some, length, Bool, true, false, ◌&&◌, if◌then◌else◌, slice_index_or, Contains}
 use Rattle.ooo_code.specs.declared.design.Design.{Design}
 use Rattle.ooo_code.specs.declared.limits.Limits.{Limits}
 use Rattle.ooo_lemmas.specs.Counting.{count}
@@ -14,7 +14,8 @@ use Rattle.ooo_tables.specs.declared.tables.Tables.{Tables}
 use Rattle.ooo_dispatch.specs.Least.{HoldsUp, rules_of}
 use Rattle.ooo_fronts.specs.declared.front.Front.{Front}
 use Rattle.ooo_fronts.specs.declared.front.Hold.{Hold}
-use Rattle.ooo_fronts.specs.Fronts.{front_is, process_in}
+use Rattle.ooo_fronts.specs.Fronts.{Kept, front_is, process_in}
+use Rattle.ooo_fronts.specs.Reaching.{CanHoldProcess}
 
 -- ---- one front and one segment
 
@@ -68,6 +69,39 @@ held t fronts p = held_at t fronts p (slice_index_or fronts p None)
 pub record AreCounts (t : Tables) (fronts : List (Option Front)) (counts : List ℕ) : Type 0 where
   pub count : length counts ≡ length fronts
   pub each : (p : ℕ) → slice_index_or counts p 0 ≡ held t fronts p
+
+-- the entry in the row of process p for process q, of a table with a row for each of so many processes
+abbrev pub entry_in : (processes : ℕ) → (table : List ℕ) → (p q : ℕ) → ℕ
+entry_in n table p q = slice_index_or table (p * n + q) 0
+
+-- if process q has a front and the segment of g can hold it up, the table has by how many segments the front g of process p does
+abbrev pub IsEntry : Tables → List (Option Front) → (holds : List ℕ) → (p q : ℕ) → (g : Front) → Type 0
+IsEntry t fronts holds p q g = (f : Front) → slice_index_or fronts q None ≡ Some f → CanHoldProcess t g.segment q →
+    entry_in (length fronts) holds p q ≡ holds_of t g q f
+
+-- so it is of the fronts of all others on that of process q
+abbrev pub IsColumn : Tables → List (Option Front) → (q : ℕ) → (holds : List ℕ) → Type 0
+IsColumn t fronts q holds = (p : ℕ) (g : Front) → p ≢ q → slice_index_or fronts p None ≡ Some g → IsEntry t fronts holds p q g
+
+-- and so it is of all fronts
+pub record AreHolds (t : Tables) (fronts : List (Option Front)) (holds : List ℕ) : Type 0 where
+  pub size : length holds ≡ length fronts * length fronts
+  pub column : (q : ℕ) → IsColumn t fronts q holds
+
+-- the counts and the table that are kept are those of the fronts
+pub record AreKept (t : Tables) (k : Kept) : Type 0 where
+  pub counts : AreCounts t k.fronts k.counts
+  pub holds : AreHolds t k.fronts k.holds
+
+-- a table before and after is the same but for the entry of processes p and q
+pub record ChangesEntry (processes p q : ℕ) (before after : List ℕ) : Type 0 where
+  pub size : length after ≡ length before
+  pub others : (k l : ℕ) → l < processes → (k ≢ p) ⊎ (l ≢ q) → entry_in processes after k l ≡ entry_in processes before k l
+
+-- the same but for the column of process q
+pub record ChangesColumn (processes q : ℕ) (before after : List ℕ) : Type 0 where
+  pub size : length after ≡ length before
+  pub others : (k l : ℕ) → l < processes → l ≢ q → entry_in processes after k l ≡ entry_in processes before k l
 
 -- the counts before and after are the same but for that of process q
 pub record ChangesOnly (q : ℕ) (before after : List ℕ) : Type 0 where

@@ -1,8 +1,7 @@
 ghost use Rattle.std.specs.Prelude.{◌≡◌, ◌<◌, ◌≤◌, ◌&&◌, false, is_some, length, nat_lt};
 ghost use Rattle.ooo_conflicts.specs.Kinds.{is_clash, kind_at};
-ghost use Rattle.ooo_fronts.specs.declared.front.Front.{Front as FrontSpec};
 ghost use Rattle.ooo_fronts.specs.Fronts.{AreAligned, IsFit, IsFitOfItself, process_in};
-ghost use Rattle.ooo_fronts.specs.Holds.{clashes_at, hold_at, holds_of, maybe_holds_of, HoldsByNoOther, IsFirstBy};
+ghost use Rattle.ooo_fronts.specs.Holds.{clashes_at, hold_at, holds_of, HoldsByNoOther, IsFirstBy};
 ghost use Rattle.ooo_fronts.specs.Reaching.{AreReaches, IsListOf, IsMetBy, LeadsAtOnce, Meets};
 
 use crate::front::Front;
@@ -66,27 +65,6 @@ fn hold_at(tables: &Tables, g: Front, p: u32, f: Front, b: u32) -> Option<Stamp>
         Some(at)
     } else {
         None
-    }
-}
-
-// By how many segments the front g, if there is one, holds the front f of process p up.
-pub(crate) fn maybe_holds_of(
-    tables: &Tables,
-    reaches: &Reaches,
-    g: Option<Front>,
-    p: u32,
-    f: Front,
-) -> u32
-    requires aligned { AreAligned tables.now }
-    requires reaches { AreReaches tables.now reaches.now }
-    requires fit { (h : FrontSpec) → g ≡ Some h → IsFitOfItself tables.now h }
-    requires held { IsFit tables.now p f }
-    ensures exact { result ≡ maybe_holds_of tables.now g p f }
-    ensures few { result ≤ length tables.now.graph.segments }
-{
-    match g {
-        None => 0,
-        Some(g) => holds_of(tables, reaches, g, p, f),
     }
 }
 

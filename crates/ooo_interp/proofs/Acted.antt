@@ -1,6 +1,6 @@
 -- What a node's own steps come to, over plain variables.
-use Rattle.std.proofs.Common.{◌≡◌, ℕ, List, [], ◌∷◌, Option, Result, Ok, Err, Some, IsErrAnd, slice_get, sym, ap, subst, ◌∙◌}
-use Rattle.std.specs.Prelude.{IfOk, IfSome}
+use Rattle.std.proofs.Common.{◌≡◌, ℕ, List, [], ◌∷◌, Option, Result, Ok, Err, None, Some, IsErrAnd, slice_get, sym, ap, subst, ◌∙◌}
+use Rattle.std.specs.Prelude.{IfSome}
 use Rattle.ooo_value.specs.declared.operators.Fault.{Fault}
 use Rattle.ooo_value.specs.declared.values.Value.{Value}
 use Rattle.ooo_code.specs.declared.activation.Effect.{Effect}
@@ -54,10 +54,7 @@ filled r number line to c e v s t m l p result h k adds =
 pub acts_by : (r : Running) (node : Node) (k : NodeKind) (number : ℕ) (result : Result ℕ Break) (before after : Doing) → node.kind ≡ k → Steps r node.line result after (λ next. act r k number node.line node.next next before) → Acts r node number result before after
 acts_by r node k number result before after is does = subst (λ x. Steps r node.line result after (λ next. act r x number node.line node.next next before)) (sym is) does
 
--- a node that is done plainly does what its kind does
-pub plainly : (k is : NodeKind) (to : ℕ) (r : Option ℕ) (s t : Sight) → k ≡ is → IfSome r (λ n. ActsOn is to (Ok n) s t) → IfSome r (λ n. ActsOn k to (Ok n) s t)
-plainly k is to r s t e does = subst (λ x. IfSome r (λ n. ActsOn x to (Ok n) s t)) (sym e) does
-
--- a node that writes does what its kind does, unless memory runs out
-pub written : {E : Type 0} (k is : NodeKind) (to : ℕ) (r : Result (Option ℕ) E) (s : Sight) (m l : Emitted) → k ≡ is → IfOk r (λ o. IfSome o (λ n. Emits is to (Ok n) s m s l)) → IfOk r (λ o. IfSome o (λ n. Emits k to (Ok n) s m s l))
-written k is to r s m l e does = subst (λ x. IfOk r (λ o. IfSome o (λ n. Emits x to (Ok n) s m s l))) (sym e) does
+-- a node that is done plainly emits nothing, and does what its kind does
+pub plainly : (k is : NodeKind) (to : ℕ) (r : Option ℕ) (s t : Sight) (m : Emitted) → k ≡ is → IfSome r (λ n. ActsOn is to (Ok n) s t) → IfSome r (λ n. Emits k to (Ok n) s m t m)
+plainly k is to None s t m e does = tt
+plainly k is to (Some n) s t m e does = subst (λ x. Emits x to (Ok n) s m t m) (sym e) (does m)

@@ -1,4 +1,5 @@
 pub mod Acted
+pub mod Written
 pub mod Bitwise
 pub mod SignedBits
 pub mod Turned

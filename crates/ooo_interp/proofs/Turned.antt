@@ -3,11 +3,9 @@ use Rattle.std.proofs.Common.{◌≡◌, ℕ, zero, suc, ◌+◌, ◌*◌, ◌<�
 use Rattle.std.proofs.Math.Nat.{suc-mul}
 use Rattle.std.specs.Prelude.{IfOk}
 use Rattle.ooo_code.specs.declared.node.Node.{Node}
-use Rattle.ooo_code.specs.declared.node.NodeKind.TheVariants as kind
-use Rattle.ooo_code.specs.Nodes.{Doing, Next, Running, act, at_end, between, pass, steps}
+use Rattle.ooo_code.specs.Nodes.{Doing, Next, Running, act, between, pass, steps}
 use Rattle.ooo_interp.specs.declared.counting.Left.{Left}
 use Rattle.ooo_interp.specs.declared.running.Turn.{Turn}
-use Rattle.ooo_interp.specs.declared.doing.Halt.{Halt}
 use Rattle.ooo_interp.specs.declared.doing.Halt.TheVariants as halt
 use Rattle.ooo_interp.specs.declared.running.Turn.TheVariants as turn
 use Rattle.ooo_interp.specs.Acting.{ended_by}
@@ -73,9 +71,3 @@ at_the_limit nodes r number s room m node before room_is none is counts = rw (ro
 -- so many statements, from a node on
 pub steps_from : (nodes : List Node) (r : Running) (left : Left) (n number : ℕ) (d : Doing) → left.statements ≡ n → room_of left ≡ suc (suc (length nodes)) → steps nodes r n number d ≡ from_node nodes r left number d
 steps_from nodes r left n number d s_is room_is = rw (s_is, room_is) (ap (λ (f : Next). f number d) (steps_pass nodes r n))
-
--- the end of a process, where its node has done nothing before
-pub ended : (r : Running) (node : Node) (number : ℕ) (h : Halt) (before d after : Doing) → node.kind ≡ kind.End → d ≡ before → at_end r r.process.kind d.trigger d ≡ ended_by r h after → (next : Next) → Turns r (turn.Over h) next after (act r node.kind number node.line node.next next before)
-ended r node number h before d after is same does next =
-    subst (λ k. Turns r (turn.Over h) next after (act r k number node.line node.next next before)) (sym is)
-    (subst (λ x. at_end r r.process.kind x.trigger x ≡ ended_by r h after) same does)

@@ -5,3 +5,4 @@ pub mod Ports
 pub mod Carrying
 pub mod Jobs
 pub mod Parts
+pub mod Plainly

@@ -1,10 +1,12 @@
 //! Nodes that only compute with numbers of one kind, and write what they compute into a local, a variable or a
 //! signal, done at once: most of those that run are so. What isn't plain in this way gives none, and nothing is done.
 
-ghost use Rattle.std.specs.Prelude.{◌≡◌, IfNone, IfOk, IfSome, None, Ok, Some};
+ghost use Rattle.std.specs.Prelude.{◌≡◌, IfNone, IfOk, IfSome, Ok, Some};
+ghost use Rattle.ooo_code.specs.declared.expression.NodeExpr.{NodeExpr as NodeExprSpec};
 ghost use Rattle.ooo_code.specs.declared.node.NodeKind.TheVariants as kind;
 ghost use Rattle.ooo_code.specs.Expressions.{on_value, reading_of};
 ghost use Rattle.ooo_interp.specs.Acting.{ActsOn, Emits};
+ghost use Rattle.ooo_interp.specs.Plainly.{written};
 ghost use Rattle.ooo_value.specs.Operators.{binary_of};
 ghost use Rattle.ooo_value.specs.declared.values.Value.TheVariants as ValueSpec;
 
@@ -15,110 +17,63 @@ use crate::numbers::kinds::Operand;
 use crate::numbers::{combined, operand};
 use crate::parts::Lent;
 use ooo_code::{Effect, Node, NodeExpr, NodeKind};
-use ooo_value::{Kind, Op, Value, truth};
+use ooo_value::{Kind, Op, Value};
 use std::alloc::AllocError;
 
-// Does what a node does, where that is plain: the next node. Where it isn't, nothing is done.
+// Does what a node does, where that is plain: the next node. Where it isn't, nothing is done. The value that is written
+// is computed in one place, as its code is long: with a copy for each kind of node this stays a call in the loop over
+// nodes.
 #[inline(always)]
-pub(crate) fn do_plainly<L: Lent>(lent: &mut L, node: &Node) -> Option<u32>
-    ensures acts { IfSome result (λ n. ActsOn node.now.kind node.now.next (Ok n)
-        (L.sight lent.old) (L.sight lent.new)) }
-    ensures none { IfNone result (L.sight lent.new ≡ L.sight lent.old) }
-    ensures kept { L.kept lent.new ≡ L.kept lent.old }
-{
-    let to = node.next;
-    match &node.kind {
-        NodeKind::Set(n, e) => set(lent, *n, e, to),
-        NodeKind::Store(x, i, e) => store(lent, *x, i, e, to),
-        NodeKind::Test(e, no) => test(lent, e, to, *no),
-        NodeKind::Goto => Some(to),
-        _ => None,
-    }
-}
-
-// Does what a node does that writes a signal, where its value is plain: the next node. Else nothing is done.
-#[inline(always)]
-pub(crate) fn write_plainly<L: Lent>(
-    lent: &L,
+pub(crate) fn do_plainly<L: Lent>(
+    lent: &mut L,
     emitted: &mut Emitted,
     node: &Node,
 ) -> Result<Option<u32>, AllocError>
-    ensures acts { let s = L.sight lent.now in
-        IfOk result (λ to. IfSome to (λ n.
-        Emits node.now.kind node.now.next (Ok n) s emitted.old s emitted.new)) }
-    ensures none { IfOk result (λ to. IfNone to (emitted.new ≡ emitted.old)) }
+    ensures acts { IfOk result (λ to. IfSome to (λ n. Emits node.now.kind node.now.next (Ok n)
+        (L.sight lent.old) emitted.old (L.sight lent.new) emitted.new)) }
+    ensures sight { IfOk result (λ to. IfNone to (L.sight lent.new ≡ L.sight lent.old)) }
+    ensures emitted { IfOk result (λ to. IfNone to (emitted.new ≡ emitted.old)) }
+    ensures kept { L.kept lent.new ≡ L.kept lent.old }
 {
-    match &node.kind {
-        NodeKind::Write(c, e) => write(lent, emitted, *c, e, node.next),
-        _ => Ok(None),
+    let e = match &node.kind {
+        NodeKind::Set(_, e) | NodeKind::Write(_, e) => e,
+        NodeKind::Store(x, index, e) => match index {
+            None => e,
+            Some(i) => return Ok(store_at(lent, *x, i, e, node.next)),
+        },
+        NodeKind::Test(e, no) => return Ok(test(lent, e, node.next, *no)),
+        NodeKind::Goto => return Ok(Some(node.next)),
+        _ => return Ok(None),
+    };
+    match plain_value(lent, e) {
+        Some(v) => write(lent, emitted, node, v),
+        None => Ok(None),
     }
 }
 
-// A value of a signal is requested.
+// A local, a scalar variable or a signal gets the value that a node writes.
 #[inline(always)]
 fn write<L: Lent>(
-    lent: &L,
-    emitted: &mut Emitted,
-    signal: u32,
-    e: &NodeExpr,
-    to: u32,
-) -> Result<Option<u32>, AllocError>
-    ensures acts { let s = L.sight lent.now in
-        IfOk result (λ next. IfSome next (λ n.
-        Emits (kind.Write signal e.now) to (Ok n) s emitted.old s emitted.new)) }
-    ensures none { IfOk result (λ next. IfNone next (emitted.new ≡ emitted.old)) }
-{
-    let Some(v) = plain_value(lent, e) else {
-        return Ok(None);
-    };
-    emitted.add(Effect::Request(signal, v))?;
-    Ok(Some(to))
-}
-
-// A local gets a value.
-#[inline(always)]
-fn set<L: Lent>(lent: &mut L, slot: u32, e: &NodeExpr, to: u32) -> Option<u32>
-    ensures acts { IfSome result (λ n. ActsOn (kind.Set slot e.now) to (Ok n)
-        (L.sight lent.old) (L.sight lent.new)) }
-    ensures none { IfNone result (L.sight lent.new ≡ L.sight lent.old) }
-    ensures kept { L.kept lent.new ≡ L.kept lent.old }
-{
-    let v = plain_value(lent, e)?;
-    lent.set_slot(slot, v);
-    Some(to)
-}
-
-// A variable, or its element at an index, gets a value.
-#[inline(always)]
-fn store<L: Lent>(
     lent: &mut L,
-    variable: u32,
-    index: &Option<NodeExpr>,
-    e: &NodeExpr,
-    to: u32,
-) -> Option<u32>
-    ensures acts { IfSome result (λ n. ActsOn (kind.Store variable index.now e.now) to (Ok n)
-        (L.sight lent.old) (L.sight lent.new)) }
-    ensures none { IfNone result (L.sight lent.new ≡ L.sight lent.old) }
+    emitted: &mut Emitted,
+    node: &Node,
+    v: Value,
+) -> Result<Option<u32>, AllocError>
+    ensures acts { (e : NodeExprSpec) →
+        written node.now.kind ≡ Some e → Ok v ≡ reading_of e (L.sight lent.old) →
+        IfOk result (λ to. IfSome to (λ n. Emits node.now.kind node.now.next (Ok n)
+        (L.sight lent.old) emitted.old (L.sight lent.new) emitted.new)) }
+    ensures sight { IfOk result (λ to. IfNone to (L.sight lent.new ≡ L.sight lent.old)) }
+    ensures emitted { IfOk result (λ to. IfNone to (emitted.new ≡ emitted.old)) }
     ensures kept { L.kept lent.new ≡ L.kept lent.old }
 {
-    match index {
-        None => store_scalar(lent, variable, e, to),
-        Some(i) => store_at(lent, variable, i, e, to),
+    match &node.kind {
+        NodeKind::Set(n, _) => lent.set_slot(*n, v),
+        NodeKind::Store(x, None, _) => lent.set_cell(*x, 0, v),
+        NodeKind::Write(c, _) => emitted.add(Effect::Request(*c, v))?,
+        _ => return Ok(None),
     }
-}
-
-// A scalar variable gets a value.
-#[inline(always)]
-fn store_scalar<L: Lent>(lent: &mut L, variable: u32, e: &NodeExpr, to: u32) -> Option<u32>
-    ensures acts { IfSome result (λ n. ActsOn (kind.Store variable None e.now) to (Ok n)
-        (L.sight lent.old) (L.sight lent.new)) }
-    ensures none { IfNone result (L.sight lent.new ≡ L.sight lent.old) }
-    ensures kept { L.kept lent.new ≡ L.kept lent.old }
-{
-    let v = plain_value(lent, e)?;
-    lent.set_cell(variable, 0, v);
-    Some(to)
+    Ok(Some(node.next))
 }
 
 // An element of a variable gets a value.
@@ -148,7 +103,7 @@ fn test<L: Lent>(lent: &L, e: &NodeExpr, to: u32, other: u32) -> Option<u32>
         IfSome result (λ n. ActsOn (kind.Test e.now other) to (Ok n) s s) }
 {
     let holds = plain_truth(lent, e)?;
-    Some(if truth(Value::Bool(holds)) { to } else { other })
+    Some(if holds { to } else { other })
 }
 
 // What an expression gives, where that is a constant or a number that is converted to its own kind.

@@ -11,7 +11,7 @@ use crate::acting::{act, at_end};
 use crate::counting::Left;
 use crate::doing::{Activation, Break, Emitted, Halt, Pause};
 use crate::parts::Lent;
-use crate::plainly::{do_plainly, write_plainly};
+use crate::plainly::do_plainly;
 use ooo_code::{Node, NodeKind};
 use sqlite_items::at;
 use std::alloc::AllocError;
@@ -114,16 +114,34 @@ fn do_node<'a, L: Lent>(
         (act r node.now.kind number node.now.line node.now.next next before)) }
     ensures kept { L.kept lent.new ≡ L.kept lent.old }
 {
-    if let Some(to) = do_plainly(lent, node) {
-        return Ok(Turn::Goes(to));
+    if let NodeKind::End = &node.kind {
+        return Ok(Turn::Over(at_end(trigger, activation)));
     }
-    if let Some(to) = write_plainly(lent, emitted, node)? {
-        return Ok(Turn::Goes(to));
+    match do_plainly(lent, emitted, node)? {
+        Some(to) => Ok(Turn::Goes(to)),
+        None => do_slowly(lent, emitted, trigger, activation, node, number),
     }
-    match &node.kind {
-        NodeKind::End => Ok(Turn::Over(at_end(trigger, activation))),
-        _ => do_any(lent, emitted, trigger, activation, node, number),
-    }
+}
+
+// Does what a node does that isn't plain. A function clears the room of all its values as it begins: by this one the
+// room for what `do_any` answers is cleared here alone, and not for each plain node.
+#[inline(always)]
+fn do_slowly<'a, L: Lent>(
+    lent: &mut L,
+    emitted: &mut Emitted,
+    trigger: &mut Option<Pause<'a>>,
+    activation: &Activation<'a>,
+    node: &'a Node,
+    number: u32,
+) -> Result<Turn<'a>, AllocError>
+    ensures does { let r = running_of activation.now in
+        let before = doing_of (L.sight lent.old) emitted.old trigger.old in
+        let after = doing_of (L.sight lent.new) emitted.new trigger.new in
+        IfOk result (λ t. (next : Next) → Turns r t next after
+        (act r node.now.kind number node.now.line node.now.next next before)) }
+    ensures kept { L.kept lent.new ≡ L.kept lent.old }
+{
+    do_any(lent, emitted, trigger, activation, node, number)
 }
 
 // Does what any node does.

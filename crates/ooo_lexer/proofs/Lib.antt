@@ -9,6 +9,7 @@ pub mod Numerals
 pub mod Directives
 pub mod Comments
 pub mod Signs
+pub mod Separators
 pub mod Firsts
 pub mod Cuttings
 pub mod Progress

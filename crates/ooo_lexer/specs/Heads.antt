@@ -125,6 +125,10 @@ begins_pair a (b ∷ bs) = is_pair a b
 abbrev pub stands_alone : ℕ → Bool
 stands_alone b = list_any (λ c. b == c) (codes "~?:;,.(){}[]")
 
+-- signs of one byte with which no other sign begins, nor a comment
+abbrev pub is_separator : ℕ → Bool
+is_separator b = list_any (λ c. b == c) (codes "{}()[];,.")
+
 -- the signs of one byte
 abbrev pub is_lone_sign : ℕ → Bool
 is_lone_sign b = takes_equals b || stands_alone b

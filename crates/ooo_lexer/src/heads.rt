@@ -6,7 +6,7 @@ ghost use Rattle.ooo_lexer.specs.Numerals.{number_of};
 use crate::breach::LexBreach;
 use crate::bytes::{Class, begins_word, is_digit, is_space};
 use crate::flaw::Flaw;
-use crate::marks::{directive_head, mark_head};
+use crate::marks::{directive_head, is_separator, mark_head};
 use crate::numbers::number_of;
 use crate::texts::text_head;
 use crate::token::TokenKind;
@@ -28,7 +28,7 @@ pub(crate) struct Head {
 }
 
 /// The first piece, or why none stands first.
-#[tactic(auto, unfolding(crate::specs::Heads::head_of, crate::specs::Heads::head_at))]
+#[tactic(auto, unfolding(crate::specs::Heads::head_of, crate::specs::Heads::head_at), using(crate::proofs::Separators::head_of_separator))]
 pub(crate) fn head_of(bytes: &[u8]) -> Result<Head, Flaw>
     ensures { result ≡ head_of bytes.now }
 {
@@ -41,10 +41,14 @@ pub(crate) fn head_of(bytes: &[u8]) -> Result<Head, Flaw>
             length: 1,
         });
     }
-    let (run, _) = Class::Word.split(bytes);
+    if is_separator(*first) {
+        return Ok(token_head(TokenKind::Sign, 1));
+    }
     if begins_word(*first) {
+        let (run, _) = Class::Word.split(bytes);
         Ok(token_head(TokenKind::Word, run.len()))
     } else if is_digit(*first) {
+        let (run, _) = Class::Word.split(bytes);
         number_head(run)
     } else {
         marked_head(*first, rest)

@@ -1,6 +1,6 @@
 ghost use Rattle.std.specs.Prelude.{◌≡◌, ◌≤◌, length, IfSome};
 ghost use Rattle.ooo_lexer.specs.Forms.{headers};
-ghost use Rattle.ooo_lexer.specs.Heads.{flaw, header_length, is_end, is_named, is_include, directive_head, close_at, block_head, is_pair, takes_equals, may_be_doubled, stands_alone, is_lone_sign, sign_head, mark_head};
+ghost use Rattle.ooo_lexer.specs.Heads.{flaw, header_length, is_end, is_named, is_include, directive_head, close_at, block_head, is_pair, takes_equals, may_be_doubled, stands_alone, is_lone_sign, is_separator, sign_head, mark_head};
 
 use crate::breach::LexBreach;
 use crate::bytes::Class;
@@ -153,6 +153,17 @@ fn may_be_doubled(byte: u8) -> bool
     ensures { result ≡ may_be_doubled byte }
 {
     matches!(byte, b'<' | b'>' | b'&' | b'|' | b'+' | b'-' | b':')
+}
+
+/// The signs of one byte with which no other sign begins, nor a comment. Texts have these most, so they are looked for
+/// before the others.
+pub(crate) fn is_separator(byte: u8) -> bool
+    ensures { result ≡ is_separator byte }
+{
+    matches!(
+        byte,
+        b'{' | b'}' | b'(' | b')' | b'[' | b']' | b';' | b',' | b'.'
+    )
 }
 
 fn is_lone_sign(byte: u8) -> bool

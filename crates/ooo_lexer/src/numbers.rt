@@ -49,6 +49,7 @@ pub(crate) enum Suffix {
 
 /// The number that a number token's bytes are, or none where they are no number or none of its kinds
 /// holds the value (ISO/IEC 14882, [lex.icon]).
+#[inline(never)]
 pub fn read_number(bytes: &[u8]) -> Option<Number>
     ensures { MatchOption result (HasNoNumber bytes.now) (λ n. IsNumberOf bytes.now n) }
 {

@@ -1,9 +1,7 @@
-//! Tests of names, calls and constants: what no clause says of `ooo_scopes`, `ooo_calls` and `ooo_constants`.
+//! Tests of names and calls: what no clause says of `ooo_scopes` and `ooo_calls`.
 #![tactic(auto)]
 
 #[cfg(test)]
 mod calls;
-#[cfg(test)]
-mod constants;
 #[cfg(test)]
 mod scopes;

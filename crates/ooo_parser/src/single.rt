@@ -16,6 +16,7 @@ pub(crate) struct Source<'a> {
 
 impl<'a> Source<'a> {
     /// A token as a symbol of its own.
+    #[inline(always)]
     pub(crate) fn single(self, token: &Token) -> Symbol<'a>
         requires { IsWithin self.bytes.now token.now }
         ensures { result ≡ single self.entry.bytes token.now }
@@ -34,6 +35,7 @@ impl<'a> Source<'a> {
     }
 }
 
+#[inline(always)]
 fn place(token: &Token) -> Position
     ensures { result ≡ place token.now }
 {
@@ -44,6 +46,7 @@ fn place(token: &Token) -> Position
 }
 
 // A number's value, and the `int` 0 for anything else.
+#[inline(always)]
 fn value_in(kind: TokenKind, bytes: &[u8]) -> Value
     ensures { result ≡ value_in kind bytes.now }
 {

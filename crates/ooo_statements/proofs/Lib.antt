@@ -1,4 +1,2 @@
-pub mod Awaits
 pub mod Blocks
 pub mod Elses
-pub mod Tails

@@ -1,4 +1,4 @@
-//! Reads times, events and statements of the grammar.
+//! Reads statements of the grammar.
 //!
 //! Each reader answers what the code in its contract does: the tree and the tokens after it, or where the code
 //! refuses the tokens. Only running out of memory stands beside that.
@@ -27,20 +27,8 @@ macro_rules! got {
     };
 }
 
-mod events;
 mod keeping;
-mod lists;
-mod locals;
-mod prints;
 mod signs;
-mod simple;
 mod statements;
-mod times;
-mod waits;
 
-pub use events::read_event;
-pub use signs::{begins_with_named_time, begins_with_unit_of_time};
-pub use statements::{followed, read_body};
-pub use times::{
-    read_boxed_named_time, read_boxed_timed, read_boxed_timed_inside, read_unit_of_time,
-};
+pub use statements::read_body;

@@ -1,105 +1,22 @@
 ghost use Rattle.std.specs.Prelude.{◌≡◌, ◌∷◌, ◌++◌, [], IfOk};
-ghost use Rattle.ooo_grammar.specs.Codes.{deeper, nothing};
-ghost use Rattle.ooo_grammar.specs.Combinators.{optional, quoted, to};
+ghost use Rattle.ooo_grammar.specs.Codes.{nothing};
 ghost use Rattle.ooo_grammar.specs.Names.{ends_open};
-ghost use Rattle.ooo_grammar.specs.Statements.{after_condition, after_do, after_while, block_stat, body, break_stat, condition, continue_stat, do_stat, else_part, empty_stat, for_body, for_first, for_start, for_stat, for_step, for_test, if_stat, inner_stat, local, local_stat, maybe_other, other_stat, parens, return_stat, simple, simple_stat, stat, stats, while_stat};
+ghost use Rattle.ooo_grammar.specs.Statements.{after_condition, after_do, after_while, block_stat, body, break_stat, continue_stat, do_stat, else_part, empty_stat, for_body, for_stat, if_stat, inner_stat, local_stat, maybe_other, other_stat, return_stat, simple_stat, stat, stats, while_stat};
 ghost use Rattle.ooo_grammar.specs.Gives.{Gives, reads_at};
 ghost use Rattle.ooo_statements.specs.Loops.{next_stat};
-ghost use Rattle.ooo_statements.specs.Parts.{closed_do, closed_step, ended_start, ended_value, opened_start};
+ghost use Rattle.ooo_statements.specs.Parts.{closed_do};
 
 use crate::keeping::discard;
-use crate::lists::with;
-use crate::locals::read_local;
-use crate::signs::{begins_with_for_start, begins_with_simple, begins_with_statement};
-use crate::simple::read_simple;
-use ooo_exprs::{begins_with_expression, read_boxed_inner_value, read_boxed_value};
+use crate::signs::begins_with_statement;
 use ooo_grammar::{Limits, Read, ReadError, begins_with_type, one, one_inside, starts};
 use ooo_lexer::Position;
-use ooo_syntax::{Expr, ForStart, Local, Simple, Stat, Symbol, Terminal};
+use ooo_simple::{
+    begins_with_simple, followed, read_boxed_local, read_boxed_simple, read_condition,
+    read_ended_value, read_for_first, read_for_step, read_for_test, read_parens, with,
+};
+use ooo_syntax::{Expr, ForStart, Simple, Stat, Symbol, Terminal};
 use sqlite_items::{Boxed, Items};
 use std::alloc::{AllocError, Global};
-
-/// Reads a token after what was found already, and hands that back.
-#[tactic(auto, using(ooo_grammar::specs::Steps::steps))]
-pub fn followed<'a, T: Drop>(
-    found: T,
-    terminal: Terminal,
-    tokens: &'a [Symbol<'a>],
-    limits: Limits,
-) -> Read<'a, T>
-    ensures { Gives (reads_at limits (to (λ _. found) (quoted terminal)) tokens.now) result }
-{
-    let (_, rest) = keeping!(found; one(tokens, terminal, limits));
-    Ok((found, rest))
-}
-
-// ---- what stands in a statement is read onto the heap
-
-fn boxed_simple(alloc: Global, found: Simple) -> Result<Boxed<Simple>, AllocError>
-    ensures { IfOk result (λ boxed. boxed ≡ found) }
-{
-    Boxed::new(alloc, found)
-}
-
-fn boxed_local(alloc: Global, locals: Local) -> Result<Boxed<Local>, AllocError>
-    ensures { IfOk result (λ boxed. boxed ≡ locals) }
-{
-    Boxed::new(alloc, locals)
-}
-
-fn boxed_start(alloc: Global, found: ForStart) -> Result<Boxed<ForStart>, AllocError>
-    ensures { IfOk result (λ boxed. boxed ≡ found) }
-{
-    Boxed::new(alloc, found)
-}
-
-// Locals.
-#[tactic(auto, using(ooo_grammar::specs::Steps::steps))]
-fn read_boxed_local<'a>(
-    alloc: Global,
-    tokens: &'a [Symbol<'a>],
-    limits: Limits,
-) -> Read<'a, Boxed<Local>>
-    ensures { Gives (reads_at limits local tokens.now) result }
-{
-    let (locals, rest) = got!(read_local(alloc, tokens, limits));
-    Ok((boxed_local(alloc, locals)?, rest))
-}
-
-// A statement without its `;`.
-#[tactic(auto, using(ooo_grammar::specs::Steps::steps))]
-fn read_boxed_simple<'a>(
-    alloc: Global,
-    tokens: &'a [Symbol<'a>],
-    limits: Limits,
-) -> Read<'a, Boxed<Simple>>
-    ensures { Gives (reads_at limits simple tokens.now) result }
-{
-    let (found, rest) = got!(read_simple(alloc, tokens, limits));
-    Ok((boxed_simple(alloc, found)?, rest))
-}
-
-// An expression in parentheses.
-#[tactic(auto, using(ooo_grammar::specs::Steps::steps), unfolding(ooo_grammar::specs::Statements::parens))]
-fn read_parens<'a>(alloc: Global, tokens: &'a [Symbol<'a>], limits: Limits) -> Read<'a, Boxed<Expr>>
-    ensures { Gives (reads_at limits parens tokens.now) result }
-{
-    let (_, rest) = got!(one(tokens, Terminal::Open, limits));
-    let (test, rest) = got!(read_boxed_inner_value(alloc, rest, limits));
-    followed(test, Terminal::Close, rest, limits)
-}
-
-// The same, one level deeper.
-#[tactic(auto, using(ooo_grammar::specs::Steps::deeper_gives), unfolding(ooo_grammar::specs::Statements::condition))]
-fn read_condition<'a>(
-    alloc: Global,
-    tokens: &'a [Symbol<'a>],
-    limits: Limits,
-) -> Read<'a, Boxed<Expr>>
-    ensures { Gives (reads_at limits condition tokens.now) result }
-{
-    read_parens(alloc, tokens, limits.inside())
-}
 
 // Whether an `else` could still be read as part of the statement.
 #[tactic(auto, unfolding(ooo_grammar::specs::Names::ends_open))]
@@ -146,22 +63,6 @@ fn read_continue<'a>(tokens: &'a [Symbol<'a>], limits: Limits) -> Read<'a, Stat>
     Ok((Stat::Continue(head.position), rest))
 }
 
-// An expression or nothing, and `;`.
-#[tactic(auto, using(ooo_grammar::specs::Steps::steps))]
-fn read_ended_value<'a>(
-    alloc: Global,
-    tokens: &'a [Symbol<'a>],
-    limits: Limits,
-) -> Read<'a, Option<Boxed<Expr>>>
-    ensures { Gives (reads_at limits ended_value tokens.now) result }
-{
-    if !begins_with_expression(tokens) {
-        return followed(None, Terminal::Semicolon, tokens, limits);
-    }
-    let (found, rest) = got!(read_boxed_value(alloc, tokens, limits));
-    followed(Some(found), Terminal::Semicolon, rest, limits)
-}
-
 // `return`, an expression or nothing, and `;`.
 #[tactic(auto, using(ooo_grammar::specs::Steps::steps), unfolding(ooo_grammar::specs::Statements::return_stat))]
 fn read_return<'a>(alloc: Global, tokens: &'a [Symbol<'a>], limits: Limits) -> Read<'a, Stat>
@@ -190,165 +91,6 @@ fn read_simple_stat<'a>(alloc: Global, tokens: &'a [Symbol<'a>], limits: Limits)
     let (found, rest) = got!(read_boxed_simple(alloc, tokens, limits));
     let (found, rest) = got!(followed(found, Terminal::Semicolon, rest, limits));
     Ok((Stat::Simple(found), rest))
-}
-
-// ---- the parts of a `for`
-
-// What a `for` begins with.
-#[tactic(auto, using(ooo_grammar::specs::Steps::steps), unfolding(ooo_grammar::specs::Statements::for_start))]
-fn read_for_start<'a>(alloc: Global, tokens: &'a [Symbol<'a>], limits: Limits) -> Read<'a, ForStart>
-    ensures { Gives (reads_at limits for_start tokens.now) result }
-{
-    if begins_with_type(tokens) {
-        let (locals, rest) = got!(read_local(alloc, tokens, limits));
-        return Ok((ForStart::Local(locals), rest));
-    }
-    let (found, rest) = got!(read_simple(alloc, tokens, limits));
-    Ok((ForStart::Simple(found), rest))
-}
-
-// The same on the heap.
-#[tactic(auto, using(ooo_grammar::specs::Steps::steps))]
-fn read_boxed_for_start<'a>(
-    alloc: Global,
-    tokens: &'a [Symbol<'a>],
-    limits: Limits,
-) -> Read<'a, Boxed<ForStart>>
-    ensures { Gives (reads_at limits for_start tokens.now) result }
-{
-    let (found, rest) = got!(read_for_start(alloc, tokens, limits));
-    Ok((boxed_start(alloc, found)?, rest))
-}
-
-// What a `for` begins with or nothing, and `;`.
-#[tactic(auto, using(ooo_grammar::specs::Steps::steps))]
-fn read_ended_start<'a>(
-    alloc: Global,
-    tokens: &'a [Symbol<'a>],
-    limits: Limits,
-) -> Read<'a, Option<Boxed<ForStart>>>
-    ensures { Gives (reads_at limits ended_start tokens.now) result }
-{
-    if !begins_with_for_start(tokens) {
-        let (_, rest) = got!(one(tokens, Terminal::Semicolon, limits));
-        return Ok((None, rest));
-    }
-    let (found, rest) = got!(read_boxed_for_start(alloc, tokens, limits));
-    followed(Some(found), Terminal::Semicolon, rest, limits)
-}
-
-// The same, one level deeper.
-#[tactic(auto, using(ooo_grammar::specs::Steps::deeper_gives))]
-fn read_ended_start_inside<'a>(
-    alloc: Global,
-    tokens: &'a [Symbol<'a>],
-    limits: Limits,
-) -> Read<'a, Option<Boxed<ForStart>>>
-    ensures { Gives (reads_at limits (deeper ended_start) tokens.now) result }
-{
-    read_ended_start(alloc, tokens, limits.inside())
-}
-
-// `(` and what a `for` begins with, where `(` stands inside the `for`.
-#[tactic(auto, using(ooo_grammar::specs::Steps::steps))]
-fn read_opened_start<'a>(
-    alloc: Global,
-    tokens: &'a [Symbol<'a>],
-    limits: Limits,
-) -> Read<'a, Option<Boxed<ForStart>>>
-    ensures { Gives (reads_at limits opened_start tokens.now) result }
-{
-    let (_, rest) = got!(one(tokens, Terminal::Open, limits));
-    read_ended_start_inside(alloc, rest, limits)
-}
-
-// The first part of a `for`, with its `(` and `;`.
-#[tactic(auto, using(ooo_grammar::specs::Steps::deeper_gives), unfolding(ooo_grammar::specs::Statements::for_first))]
-fn read_for_first<'a>(
-    alloc: Global,
-    tokens: &'a [Symbol<'a>],
-    limits: Limits,
-) -> Read<'a, Option<Boxed<ForStart>>>
-    ensures { Gives (reads_at limits for_first tokens.now) result }
-{
-    read_opened_start(alloc, tokens, limits.inside())
-}
-
-// An expression or nothing and `;`, one level deeper.
-#[tactic(auto, using(ooo_grammar::specs::Steps::deeper_gives))]
-fn read_ended_value_inside<'a>(
-    alloc: Global,
-    tokens: &'a [Symbol<'a>],
-    limits: Limits,
-) -> Read<'a, Option<Boxed<Expr>>>
-    ensures { Gives (reads_at limits (deeper ended_value) tokens.now) result }
-{
-    read_ended_value(alloc, tokens, limits.inside())
-}
-
-// The test of a `for` with its `;`, inside the `for` and its parentheses.
-#[tactic(auto, using(ooo_grammar::specs::Steps::deeper_gives), unfolding(ooo_grammar::specs::Statements::for_test))]
-fn read_for_test<'a>(
-    alloc: Global,
-    tokens: &'a [Symbol<'a>],
-    limits: Limits,
-) -> Read<'a, Option<Boxed<Expr>>>
-    ensures { Gives (reads_at limits for_test tokens.now) result }
-{
-    read_ended_value_inside(alloc, tokens, limits.inside())
-}
-
-// A statement without its `;`, or nothing.
-#[tactic(auto, using(ooo_grammar::specs::Steps::steps))]
-fn read_optional_simple<'a>(
-    alloc: Global,
-    tokens: &'a [Symbol<'a>],
-    limits: Limits,
-) -> Read<'a, Option<Boxed<Simple>>>
-    ensures { Gives (reads_at limits (optional simple) tokens.now) result }
-{
-    if !begins_with_simple(tokens) {
-        return Ok((None, tokens));
-    }
-    let (found, rest) = got!(read_boxed_simple(alloc, tokens, limits));
-    Ok((Some(found), rest))
-}
-
-// The same, one level deeper.
-#[tactic(auto, using(ooo_grammar::specs::Steps::deeper_gives))]
-fn read_optional_simple_inside<'a>(
-    alloc: Global,
-    tokens: &'a [Symbol<'a>],
-    limits: Limits,
-) -> Read<'a, Option<Boxed<Simple>>>
-    ensures { Gives (reads_at limits (deeper (optional simple)) tokens.now) result }
-{
-    read_optional_simple(alloc, tokens, limits.inside())
-}
-
-// The same and `)`.
-#[tactic(auto, using(ooo_grammar::specs::Steps::steps))]
-fn read_closed_step<'a>(
-    alloc: Global,
-    tokens: &'a [Symbol<'a>],
-    limits: Limits,
-) -> Read<'a, Option<Boxed<Simple>>>
-    ensures { Gives (reads_at limits closed_step tokens.now) result }
-{
-    let (found, rest) = got!(read_optional_simple_inside(alloc, tokens, limits));
-    followed(found, Terminal::Close, rest, limits)
-}
-
-// The last part of a `for` with its `)`.
-#[tactic(auto, using(ooo_grammar::specs::Steps::deeper_gives), unfolding(ooo_grammar::specs::Statements::for_step))]
-fn read_for_step<'a>(
-    alloc: Global,
-    tokens: &'a [Symbol<'a>],
-    limits: Limits,
-) -> Read<'a, Option<Boxed<Simple>>>
-    ensures { Gives (reads_at limits for_step tokens.now) result }
-{
-    read_closed_step(alloc, tokens, limits.inside())
 }
 
 // ---- the test of a `do`

@@ -1,7 +1,7 @@
 use crate::terminal::Terminal;
 
 /// A word or a sign of the grammar, and what it is.
-#[derive(Clone, Copy, Debug, PartialEq, Eq)]
+#[derive(Clone, Copy)]
 pub(crate) struct Row {
     pub(crate) bytes: &'static [u8],
     pub(crate) terminal: Terminal,

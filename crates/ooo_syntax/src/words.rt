@@ -1,4 +1,4 @@
-ghost use Rattle.std.specs.Prelude.{◌≡◌, find, true};
+ghost use Rattle.std.specs.Prelude.{◌≡◌, find, true, IfSome};
 ghost use Rattle.std.specs.Option.{option_copied};
 ghost use Rattle.ooo_syntax.specs.Rows.{are_by_length, has_bytes, in_rows, written_groups};
 ghost use Rattle.ooo_syntax.specs.Words.{is_reserved, only_follows_dot, signs, terminal_of, words, written_as};
@@ -9,6 +9,7 @@ use ooo_lexer::TokenKind;
 use sqlite_items::at;
 
 /// What a token of this kind and these bytes is to the grammar.
+#[inline(always)]
 pub fn terminal_of(kind: TokenKind, bytes: &[u8]) -> Terminal
     ensures { result ≡ terminal_of kind bytes.now }
 {
@@ -48,13 +49,37 @@ fn word(bytes: &[u8]) -> Option<Terminal>
 }
 
 #[tactic(auto, unfolding(crate::specs::Words::signs))]
+#[inline(always)]
 fn sign(bytes: &[u8]) -> Option<Terminal>
     ensures { result ≡ written_as signs bytes.now }
 {
-    in_groups(&SIGNS, bytes)
+    match common_sign(bytes) {
+        Some(terminal) => Some(terminal),
+        None => in_groups(&SIGNS, bytes),
+    }
+}
+
+// One of the signs that texts have most, all of one byte, without a search.
+#[tactic(auto, unfolding(crate::specs::Words::signs))]
+#[inline(always)]
+fn common_sign(bytes: &[u8]) -> Option<Terminal>
+    ensures { IfSome result (λ terminal. written_as signs bytes.now ≡ Some terminal) }
+{
+    match bytes {
+        [b'{'] => Some(Terminal::OpenBrace),
+        [b'}'] => Some(Terminal::CloseBrace),
+        [b'('] => Some(Terminal::Open),
+        [b')'] => Some(Terminal::Close),
+        [b';'] => Some(Terminal::Semicolon),
+        [b','] => Some(Terminal::Comma),
+        [b'.'] => Some(Terminal::Dot),
+        [b'='] => Some(Terminal::Assign),
+        _ => None,
+    }
 }
 
 // What the row with these bytes says, of those in the group of their length.
+#[inline(never)]
 fn in_groups(groups: &[&[Row]], bytes: &[u8]) -> Option<Terminal>
     requires { are_by_length 0 groups.now ≡ true }
     ensures { result ≡ written_as (written_groups groups.now) bytes.now }

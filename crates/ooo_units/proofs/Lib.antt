@@ -1,3 +1,1 @@
-pub mod Args
 pub mod Consts
-pub mod Turns

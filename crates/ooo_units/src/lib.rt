@@ -1,4 +1,4 @@
-//! Reads whole texts of the grammar: the members of modules, their constructors, `sc_main` and a file.
+//! Reads whole texts of the grammar: the members of modules, `sc_main` and a file.
 //!
 //! A whole text is `read_unit`. Each reader answers what the code in its contract does: the tree and the tokens
 //! after it, or the first token that the code refuses or that stands too deep. Only running out of memory stands
@@ -19,10 +19,17 @@ macro_rules! keeping {
     };
 }
 
-mod arguments;
-mod constructors;
+// What was read, or the refusal of it: of a `?`, the walk of a large value costs twice as much.
+macro_rules! got {
+    ($read:expr) => {
+        match $read {
+            Ok(found) => found,
+            Err(error) => return Err(error),
+        }
+    };
+}
+
 mod keeping;
-mod main_entries;
 mod members;
 mod signs;
 mod units;

@@ -2,98 +2,29 @@ ghost use Rattle.std.specs.Prelude.{◌≡◌, IfOk};
 ghost use Rattle.ooo_grammar.specs.Codes.{deeper};
 ghost use Rattle.ooo_grammar.specs.Combinators.{table};
 ghost use Rattle.ooo_grammar.specs.Gives.{Gives, reads_at};
-ghost use Rattle.ooo_grammar.specs.Lexis.{word};
-ghost use Rattle.ooo_grammar.specs.Members.{channel_table, channels, const_field, const_fields, const_member, constant, constant_tail, field, field_form, function_tail, member, module_form, more_fields, of_type, param, params, part, parts, port_table, ports, typed_member, typed_tail, worded_tail, words};
-ghost use Rattle.ooo_units.specs.Loops.{next_item, one_more};
-ghost use Rattle.ooo_units.specs.Parts.{braced_members, clocks_member, events_member, further_fields, listed_params, members, other_member, parens_word, placed_member, process_member, public_member, some_params, some_parts, some_words, static_member, void_member};
+ghost use Rattle.ooo_grammar.specs.Members.{channels, const_field, const_fields, const_member, field, field_form, function_tail, member, module_form, more_fields, part, parts, port_table, ports, typed_member, typed_tail, worded_tail};
+ghost use Rattle.ooo_simple.specs.Loops.{next_item};
+ghost use Rattle.ooo_declarations.specs.Loops.{one_more};
+ghost use Rattle.ooo_units.specs.Parts.{braced_members, clocks_member, events_member, further_fields, members, other_member, placed_member, process_member, public_member, some_parts, static_member, void_member};
 
-use crate::arguments::read_args_inside;
-use crate::constructors::{read_named_constructor, read_word_in_parens, read_written_constructor};
-use crate::keeping::with;
-use crate::signs::{
-    begins_with_channel, begins_with_member, begins_with_port, channel_of, none_yet, port_of,
+use crate::signs::{begins_with_member, begins_with_port, port_of};
+use ooo_declarations::{
+    begins_with_channel, read_args_inside, read_channel_word, read_constant_tail,
+    read_named_constructor, read_of_type, read_params, read_parens_word, read_word_in_parens,
+    read_words, read_written_constructor,
 };
 use ooo_exprs::{read_boxed_inner_value, read_boxed_value};
 use ooo_grammar::{
     Limits, Read, ReadError, begins_with_type, next, one, read_type, read_word, starts,
 };
-use ooo_statements::{followed, read_body};
+use ooo_simple::{begun, followed, none_yet, with};
+use ooo_statements::read_body;
 use ooo_syntax::{
-    ChannelWord, Channels, Children, Constant, Field, FieldForm, Fields, Function, Member, Module,
-    Param, Part, PortWord, Ports, ResultForm, Symbol, Terminal, TypeName, Word,
+    Channels, Children, Constant, Field, FieldForm, Fields, Function, Member, Module, Part,
+    PortWord, Ports, ResultForm, Symbol, Terminal, TypeName, Word,
 };
 use sqlite_items::Items;
 use std::alloc::{AllocError, Global};
-
-// A word, one level deeper.
-#[tactic(auto, using(ooo_grammar::specs::Steps::deeper_gives))]
-pub(crate) fn read_word_inside<'a>(
-    alloc: Global,
-    tokens: &'a [Symbol<'a>],
-    limits: Limits,
-) -> Read<'a, Word>
-    ensures { Gives (reads_at limits (deeper word) tokens.now) result }
-{
-    read_word(alloc, tokens, limits.inside())
-}
-
-// A word in parentheses.
-#[tactic(auto, using(ooo_grammar::specs::Steps::steps))]
-pub(crate) fn read_parens_word<'a>(
-    alloc: Global,
-    tokens: &'a [Symbol<'a>],
-    limits: Limits,
-) -> Read<'a, Word>
-    ensures { Gives (reads_at limits parens_word tokens.now) result }
-{
-    let (_, rest) = one(tokens, Terminal::Open, limits)?;
-    let (word, rest) = read_word_inside(alloc, rest, limits)?;
-    followed(word, Terminal::Close, rest, limits)
-}
-
-// A constant, after `const`.
-#[tactic(auto, using(ooo_grammar::specs::Steps::steps), unfolding(ooo_grammar::specs::Members::constant_tail))]
-fn read_constant_tail<'a>(
-    alloc: Global,
-    is_static: bool,
-    tokens: &'a [Symbol<'a>],
-    limits: Limits,
-) -> Read<'a, Constant>
-    ensures { Gives (reads_at limits (constant_tail is_static) tokens.now) result }
-{
-    let (form, rest) = read_type(tokens, limits)?;
-    let (name, rest) = read_word(alloc, rest, limits)?;
-    let (_, rest) = keeping!(name; one(rest, Terminal::Assign, limits));
-    let (value, rest) = keeping!(name; read_boxed_value(alloc, rest, limits));
-    let (value, rest) = keeping!(name; followed(value, Terminal::Semicolon, rest, limits));
-    Ok((
-        Constant {
-            is_static,
-            form,
-            name,
-            value,
-        },
-        rest,
-    ))
-}
-
-// A constant.
-#[tactic(auto, using(ooo_grammar::specs::Steps::steps), unfolding(ooo_grammar::specs::Members::constant))]
-pub(crate) fn read_constant<'a>(
-    alloc: Global,
-    tokens: &'a [Symbol<'a>],
-    limits: Limits,
-) -> Read<'a, Constant>
-    ensures { Gives (reads_at limits constant tokens.now) result }
-{
-    if starts(tokens, Terminal::Static) {
-        let (_, rest) = one(tokens, Terminal::Static, limits)?;
-        let (_, rest) = one(rest, Terminal::Const, limits)?;
-        return read_constant_tail(alloc, true, rest, limits);
-    }
-    let (_, rest) = one(tokens, Terminal::Const, limits)?;
-    read_constant_tail(alloc, false, rest, limits)
-}
 
 // What follows a field's name.
 #[tactic(auto, using(ooo_grammar::specs::Steps::steps), unfolding(ooo_grammar::specs::Members::field_form))]
@@ -105,14 +36,14 @@ fn read_field_form<'a>(
     ensures { Gives (reads_at limits field_form tokens.now) result }
 {
     if starts(tokens, Terminal::OpenBracket) {
-        let (_, rest) = one(tokens, Terminal::OpenBracket, limits)?;
-        let (length, rest) = read_boxed_inner_value(alloc, rest, limits)?;
-        let (length, rest) = followed(length, Terminal::CloseBracket, rest, limits)?;
+        let (_, rest) = got!(one(tokens, Terminal::OpenBracket, limits));
+        let (length, rest) = got!(read_boxed_inner_value(alloc, rest, limits));
+        let (length, rest) = got!(followed(length, Terminal::CloseBracket, rest, limits));
         return Ok((FieldForm::Length(length), rest));
     }
     if starts(tokens, Terminal::Assign) {
-        let (_, rest) = one(tokens, Terminal::Assign, limits)?;
-        let (value, rest) = read_boxed_value(alloc, rest, limits)?;
+        let (_, rest) = got!(one(tokens, Terminal::Assign, limits));
+        let (value, rest) = got!(read_boxed_value(alloc, rest, limits));
         return Ok((FieldForm::Value(value), rest));
     }
     Ok((FieldForm::Plain, tokens))
@@ -123,7 +54,7 @@ fn read_field_form<'a>(
 fn read_field<'a>(alloc: Global, tokens: &'a [Symbol<'a>], limits: Limits) -> Read<'a, Field>
     ensures { Gives (reads_at limits field tokens.now) result }
 {
-    let (name, rest) = read_word(alloc, tokens, limits)?;
+    let (name, rest) = got!(read_word(alloc, tokens, limits));
     let (form, rest) = keeping!(name; read_field_form(alloc, rest, limits));
     Ok((Field { name, form }, rest))
 }
@@ -176,7 +107,7 @@ fn read_more_fields<'a>(
 ) -> Read<'a, Items<Field>>
     ensures { Gives (reads_at limits (more_fields first) tokens.now) result }
 {
-    let (list, rest) = read_further_fields(alloc, first, tokens, limits)?;
+    let (list, rest) = got!(read_further_fields(alloc, first, tokens, limits));
     followed(list, Terminal::Semicolon, rest, limits)
 }
 
@@ -232,67 +163,10 @@ fn read_const_fields<'a>(
 ) -> Read<'a, Member>
     ensures { Gives (reads_at limits const_fields tokens.now) result }
 {
-    let (form, rest) = read_type(tokens, limits)?;
-    let (first, rest) = read_field(alloc, rest, limits)?;
-    let (fields, rest) = read_more_fields(alloc, first, rest, limits)?;
+    let (form, rest) = got!(read_type(tokens, limits));
+    let (first, rest) = got!(read_field(alloc, rest, limits));
+    let (fields, rest) = got!(read_more_fields(alloc, first, rest, limits));
     Ok((const_member(alloc, form, fields)?, rest))
-}
-
-// A comma and one more word.
-#[tactic(auto, using(ooo_grammar::specs::Steps::steps))]
-fn read_next_word<'a>(
-    alloc: Global,
-    list: Items<Word>,
-    tokens: &'a [Symbol<'a>],
-    limits: Limits,
-) -> Read<'a, Items<Word>>
-    ensures { Gives (next_item limits Terminal.Comma word list tokens.now) result }
-{
-    let (_, rest) = keeping!(list; one(tokens, Terminal::Comma, limits));
-    let (more, rest) = keeping!(list; read_word(alloc, rest, limits));
-    Ok((with(list, more)?, rest))
-}
-
-// Words.
-#[tactic(auto, using(ooo_grammar::specs::Steps::steps))]
-fn read_some_words<'a>(
-    alloc: Global,
-    tokens: &'a [Symbol<'a>],
-    limits: Limits,
-) -> Read<'a, Items<Word>>
-    ensures { Gives (reads_at limits some_words tokens.now) result }
-{
-    let (first, mut rest) = read_word(alloc, tokens, limits)?;
-    let mut list = with(Items::new(alloc), first)?;
-    'turns: for _turn in 0..rest.len() {
-        if !starts(rest, Terminal::Comma) {
-            return Ok((list, rest));
-        }
-        let (more, after) = read_next_word(alloc, list, rest, limits)?;
-        list = more;
-        rest = after;
-    }
-    Ok((list, rest))
-}
-
-// Words and the `;`.
-#[tactic(auto, using(ooo_grammar::specs::Steps::steps), unfolding(ooo_grammar::specs::Members::words))]
-fn read_words<'a>(alloc: Global, tokens: &'a [Symbol<'a>], limits: Limits) -> Read<'a, Items<Word>>
-    ensures { Gives (reads_at limits words tokens.now) result }
-{
-    let (list, rest) = read_some_words(alloc, tokens, limits)?;
-    followed(list, Terminal::Semicolon, rest, limits)
-}
-
-// A type in angle brackets.
-#[tactic(auto, using(ooo_grammar::specs::Steps::steps), unfolding(ooo_grammar::specs::Members::of_type))]
-pub(crate) fn read_of_type<'a>(tokens: &'a [Symbol<'a>], limits: Limits) -> Read<'a, TypeName>
-    ensures { Gives (reads_at limits of_type tokens.now) result }
-{
-    let (_, rest) = one(tokens, Terminal::Less, limits)?;
-    let (form, rest) = read_type(rest, limits)?;
-    let (_, rest) = one(rest, Terminal::Greater, limits)?;
-    Ok((form, rest))
 }
 
 // A port's word.
@@ -312,34 +186,14 @@ fn read_port_word<'a>(tokens: &'a [Symbol<'a>], limits: Limits) -> Read<'a, Port
     Ok((found, rest))
 }
 
-// A channel's word.
-#[tactic(auto, using(ooo_grammar::specs::Steps::steps))]
-pub(crate) fn read_channel_word<'a>(
-    tokens: &'a [Symbol<'a>],
-    limits: Limits,
-) -> Read<'a, ChannelWord>
-    ensures { Gives (reads_at limits (table channel_table) tokens.now) result }
-{
-    let Some((token, rest)) = next(tokens) else {
-        return Err(ReadError::Syntax(tokens.len()));
-    };
-    let Some(found) = channel_of(token) else {
-        return Err(ReadError::Syntax(tokens.len()));
-    };
-    if !limits.fit(token) {
-        return Err(ReadError::TooDeep(tokens.len()));
-    }
-    Ok((found, rest))
-}
-
 // Ports.
 #[tactic(auto, using(ooo_grammar::specs::Steps::steps), unfolding(ooo_grammar::specs::Members::ports))]
 fn read_ports<'a>(alloc: Global, tokens: &'a [Symbol<'a>], limits: Limits) -> Read<'a, Ports>
     ensures { Gives (reads_at limits ports tokens.now) result }
 {
-    let (port, rest) = read_port_word(tokens, limits)?;
-    let (form, rest) = read_of_type(rest, limits)?;
-    let (names, rest) = read_words(alloc, rest, limits)?;
+    let (port, rest) = got!(read_port_word(tokens, limits));
+    let (form, rest) = got!(read_of_type(rest, limits));
+    let (names, rest) = got!(read_words(alloc, rest, limits));
     Ok((Ports { port, form, names }, rest))
 }
 
@@ -348,7 +202,7 @@ fn read_ports<'a>(alloc: Global, tokens: &'a [Symbol<'a>], limits: Limits) -> Re
 fn read_part<'a>(alloc: Global, tokens: &'a [Symbol<'a>], limits: Limits) -> Read<'a, Part>
     ensures { Gives (reads_at limits part tokens.now) result }
 {
-    let (name, rest) = read_word(alloc, tokens, limits)?;
+    let (name, rest) = got!(read_word(alloc, tokens, limits));
     if !starts(rest, Terminal::OpenBrace) {
         return Ok((Part { name, args: None }, rest));
     }
@@ -388,13 +242,13 @@ fn read_some_parts<'a>(
 ) -> Read<'a, Items<Part>>
     ensures { Gives (reads_at limits some_parts tokens.now) result }
 {
-    let (first, mut rest) = read_part(alloc, tokens, limits)?;
-    let mut list = with(Items::new(alloc), first)?;
+    let (first, mut rest) = got!(read_part(alloc, tokens, limits));
+    let mut list = begun(alloc, first)?;
     'turns: for _turn in 0..rest.len() {
         if !starts(rest, Terminal::Comma) {
             return Ok((list, rest));
         }
-        let (more, after) = read_next_part(alloc, list, rest, limits)?;
+        let (more, after) = got!(read_next_part(alloc, list, rest, limits));
         list = more;
         rest = after;
     }
@@ -406,7 +260,7 @@ fn read_some_parts<'a>(
 fn read_parts<'a>(alloc: Global, tokens: &'a [Symbol<'a>], limits: Limits) -> Read<'a, Items<Part>>
     ensures { Gives (reads_at limits parts tokens.now) result }
 {
-    let (list, rest) = read_some_parts(alloc, tokens, limits)?;
+    let (list, rest) = got!(read_some_parts(alloc, tokens, limits));
     followed(list, Terminal::Semicolon, rest, limits)
 }
 
@@ -415,9 +269,9 @@ fn read_parts<'a>(alloc: Global, tokens: &'a [Symbol<'a>], limits: Limits) -> Re
 fn read_channels<'a>(alloc: Global, tokens: &'a [Symbol<'a>], limits: Limits) -> Read<'a, Channels>
     ensures { Gives (reads_at limits channels tokens.now) result }
 {
-    let (channel, rest) = read_channel_word(tokens, limits)?;
-    let (form, rest) = read_of_type(rest, limits)?;
-    let (parts, rest) = read_parts(alloc, rest, limits)?;
+    let (channel, rest) = got!(read_channel_word(tokens, limits));
+    let (form, rest) = got!(read_of_type(rest, limits));
+    let (parts, rest) = got!(read_parts(alloc, rest, limits));
     Ok((
         Channels {
             channel,
@@ -426,98 +280,6 @@ fn read_channels<'a>(alloc: Global, tokens: &'a [Symbol<'a>], limits: Limits) ->
         },
         rest,
     ))
-}
-
-// A parameter.
-#[tactic(auto, using(ooo_grammar::specs::Steps::steps), unfolding(ooo_grammar::specs::Members::param))]
-pub(crate) fn read_param<'a>(
-    alloc: Global,
-    tokens: &'a [Symbol<'a>],
-    limits: Limits,
-) -> Read<'a, Param>
-    ensures { Gives (reads_at limits param tokens.now) result }
-{
-    let (form, rest) = read_type(tokens, limits)?;
-    let (name, rest) = read_word(alloc, rest, limits)?;
-    Ok((Param { form, name }, rest))
-}
-
-// A comma and one more parameter.
-#[tactic(auto, using(ooo_grammar::specs::Steps::steps))]
-pub(crate) fn read_next_param<'a>(
-    alloc: Global,
-    list: Items<Param>,
-    tokens: &'a [Symbol<'a>],
-    limits: Limits,
-) -> Read<'a, Items<Param>>
-    ensures { Gives (next_item limits Terminal.Comma param list tokens.now) result }
-{
-    let (_, rest) = keeping!(list; one(tokens, Terminal::Comma, limits));
-    let (more, rest) = keeping!(list; read_param(alloc, rest, limits));
-    Ok((with(list, more)?, rest))
-}
-
-// Parameters.
-#[tactic(auto, using(ooo_grammar::specs::Steps::steps))]
-fn read_some_params<'a>(
-    alloc: Global,
-    tokens: &'a [Symbol<'a>],
-    limits: Limits,
-) -> Read<'a, Items<Param>>
-    ensures { Gives (reads_at limits some_params tokens.now) result }
-{
-    let (first, mut rest) = read_param(alloc, tokens, limits)?;
-    let mut list = with(Items::new(alloc), first)?;
-    'turns: for _turn in 0..rest.len() {
-        if !starts(rest, Terminal::Comma) {
-            return Ok((list, rest));
-        }
-        let (more, after) = read_next_param(alloc, list, rest, limits)?;
-        list = more;
-        rest = after;
-    }
-    Ok((list, rest))
-}
-
-// Parameters or none.
-#[tactic(auto, using(ooo_grammar::specs::Steps::steps))]
-fn read_listed_params<'a>(
-    alloc: Global,
-    tokens: &'a [Symbol<'a>],
-    limits: Limits,
-) -> Read<'a, Items<Param>>
-    ensures { Gives (reads_at limits listed_params tokens.now) result }
-{
-    if begins_with_type(tokens) {
-        return read_some_params(alloc, tokens, limits);
-    }
-    Ok((Items::new(alloc), tokens))
-}
-
-// The same, one level deeper.
-#[tactic(auto, using(ooo_grammar::specs::Steps::deeper_gives))]
-fn read_listed_params_inside<'a>(
-    alloc: Global,
-    tokens: &'a [Symbol<'a>],
-    limits: Limits,
-) -> Read<'a, Items<Param>>
-    ensures { Gives (reads_at limits (deeper listed_params) tokens.now) result }
-{
-    read_listed_params(alloc, tokens, limits.inside())
-}
-
-// Parameters in parentheses.
-#[tactic(auto, using(ooo_grammar::specs::Steps::steps), unfolding(ooo_grammar::specs::Members::params))]
-fn read_params<'a>(
-    alloc: Global,
-    tokens: &'a [Symbol<'a>],
-    limits: Limits,
-) -> Read<'a, Items<Param>>
-    ensures { Gives (reads_at limits params tokens.now) result }
-{
-    let (_, rest) = one(tokens, Terminal::Open, limits)?;
-    let (list, rest) = read_listed_params_inside(alloc, rest, limits)?;
-    followed(list, Terminal::Close, rest, limits)
 }
 
 // A function, after its name.
@@ -563,7 +325,7 @@ fn read_typed_tail<'a>(
         name: word,
         form: tail,
     };
-    let (fields, rest) = read_more_fields(alloc, first, rest, limits)?;
+    let (fields, rest) = got!(read_more_fields(alloc, first, rest, limits));
     Ok((
         Member::Fields(Fields {
             is_const: false,
@@ -583,8 +345,8 @@ fn read_typed_member<'a>(
 ) -> Read<'a, Member>
     ensures { Gives (reads_at limits typed_member tokens.now) result }
 {
-    let (form, rest) = read_type(tokens, limits)?;
-    let (word, rest) = read_word(alloc, rest, limits)?;
+    let (form, rest) = got!(read_type(tokens, limits));
+    let (word, rest) = got!(read_word(alloc, rest, limits));
     read_typed_tail(alloc, form, word, rest, limits)
 }
 
@@ -616,8 +378,8 @@ fn read_worded_tail<'a>(
 fn read_public_member<'a>(tokens: &'a [Symbol<'a>], limits: Limits) -> Read<'a, Member>
     ensures { Gives (reads_at limits public_member tokens.now) result }
 {
-    let (_, rest) = one(tokens, Terminal::Public, limits)?;
-    let (_, rest) = one(rest, Terminal::Colon, limits)?;
+    let (_, rest) = got!(one(tokens, Terminal::Public, limits));
+    let (_, rest) = got!(one(rest, Terminal::Colon, limits));
     Ok((Member::Public, rest))
 }
 
@@ -630,9 +392,9 @@ fn read_static_member<'a>(
 ) -> Read<'a, Member>
     ensures { Gives (reads_at limits static_member tokens.now) result }
 {
-    let (_, rest) = one(tokens, Terminal::Static, limits)?;
-    let (_, rest) = one(rest, Terminal::Const, limits)?;
-    let (constant, rest) = read_constant_tail(alloc, true, rest, limits)?;
+    let (_, rest) = got!(one(tokens, Terminal::Static, limits));
+    let (_, rest) = got!(one(rest, Terminal::Const, limits));
+    let (constant, rest) = got!(read_constant_tail(alloc, true, rest, limits));
     Ok((Member::Constant(constant), rest))
 }
 
@@ -645,8 +407,8 @@ fn read_process_member<'a>(
 ) -> Read<'a, Member>
     ensures { Gives (reads_at limits process_member tokens.now) result }
 {
-    let (_, rest) = one(tokens, Terminal::ScHasProcess, limits)?;
-    let (word, rest) = read_word_in_parens(alloc, rest, limits)?;
+    let (_, rest) = got!(one(tokens, Terminal::ScHasProcess, limits));
+    let (word, rest) = got!(read_word_in_parens(alloc, rest, limits));
     Ok((Member::HasProcess(word), rest))
 }
 
@@ -659,8 +421,8 @@ fn read_clocks_member<'a>(
 ) -> Read<'a, Member>
     ensures { Gives (reads_at limits clocks_member tokens.now) result }
 {
-    let (_, rest) = one(tokens, Terminal::ScInClk, limits)?;
-    let (list, rest) = read_words(alloc, rest, limits)?;
+    let (_, rest) = got!(one(tokens, Terminal::ScInClk, limits));
+    let (list, rest) = got!(read_words(alloc, rest, limits));
     Ok((Member::Clocks(list), rest))
 }
 
@@ -673,8 +435,8 @@ fn read_events_member<'a>(
 ) -> Read<'a, Member>
     ensures { Gives (reads_at limits events_member tokens.now) result }
 {
-    let (_, rest) = one(tokens, Terminal::ScEvent, limits)?;
-    let (list, rest) = read_words(alloc, rest, limits)?;
+    let (_, rest) = got!(one(tokens, Terminal::ScEvent, limits));
+    let (list, rest) = got!(read_words(alloc, rest, limits));
     Ok((Member::Events(list), rest))
 }
 
@@ -683,8 +445,8 @@ fn read_events_member<'a>(
 fn read_void_member<'a>(alloc: Global, tokens: &'a [Symbol<'a>], limits: Limits) -> Read<'a, Member>
     ensures { Gives (reads_at limits void_member tokens.now) result }
 {
-    let (_, rest) = one(tokens, Terminal::Void, limits)?;
-    let (word, rest) = read_word(alloc, rest, limits)?;
+    let (_, rest) = got!(one(tokens, Terminal::Void, limits));
+    let (word, rest) = got!(read_word(alloc, rest, limits));
     read_function_tail(alloc, ResultForm::Nothing, word, rest, limits)
 }
 
@@ -698,14 +460,14 @@ fn read_placed_member<'a>(
     ensures { Gives (reads_at limits placed_member tokens.now) result }
 {
     if begins_with_port(tokens) {
-        let (ports, rest) = read_ports(alloc, tokens, limits)?;
+        let (ports, rest) = got!(read_ports(alloc, tokens, limits));
         return Ok((Member::Ports(ports), rest));
     }
     if begins_with_channel(tokens) {
-        let (channels, rest) = read_channels(alloc, tokens, limits)?;
+        let (channels, rest) = got!(read_channels(alloc, tokens, limits));
         return Ok((Member::Channels(channels), rest));
     }
-    let (word, rest) = read_word(alloc, tokens, limits)?;
+    let (word, rest) = got!(read_word(alloc, tokens, limits));
     read_worded_tail(alloc, word, rest, limits)
 }
 
@@ -739,7 +501,7 @@ fn read_member<'a>(alloc: Global, tokens: &'a [Symbol<'a>], limits: Limits) -> R
         return read_static_member(alloc, tokens, limits);
     }
     if starts(tokens, Terminal::Const) {
-        let (_, rest) = one(tokens, Terminal::Const, limits)?;
+        let (_, rest) = got!(one(tokens, Terminal::Const, limits));
         return read_const_fields(alloc, rest, limits);
     }
     if starts(tokens, Terminal::ScHasProcess) {
@@ -813,8 +575,8 @@ fn read_braced_members<'a>(
 ) -> Read<'a, Items<Member>>
     ensures { Gives (reads_at limits braced_members tokens.now) result }
 {
-    let (_, rest) = one(tokens, Terminal::OpenBrace, limits)?;
-    let (list, rest) = read_members_inside(alloc, rest, limits)?;
+    let (_, rest) = got!(one(tokens, Terminal::OpenBrace, limits));
+    let (list, rest) = got!(read_members_inside(alloc, rest, limits));
     followed(list, Terminal::CloseBrace, rest, limits)
 }
 
@@ -827,8 +589,8 @@ pub(crate) fn read_module_form<'a>(
 ) -> Read<'a, Module>
     ensures { Gives (reads_at limits module_form tokens.now) result }
 {
-    let (_, rest) = one(tokens, Terminal::ScModule, limits)?;
-    let (name, rest) = read_parens_word(alloc, rest, limits)?;
+    let (_, rest) = got!(one(tokens, Terminal::ScModule, limits));
+    let (name, rest) = got!(read_parens_word(alloc, rest, limits));
     let (members, rest) = keeping!(name; read_braced_members(alloc, rest, limits));
     let (members, rest) = keeping!(name; followed(members, Terminal::Semicolon, rest, limits));
     Ok((Module { name, members }, rest))

@@ -1,20 +1,18 @@
 ghost use Rattle.ooo_grammar.specs.Codes.{deeper};
 ghost use Rattle.ooo_grammar.specs.Combinators.{table};
 ghost use Rattle.ooo_grammar.specs.Gives.{Gives, reads_at};
-ghost use Rattle.ooo_grammar.specs.Times.{timed};
 ghost use Rattle.ooo_grammar.specs.Units.{library_table, main, main_body, main_count, main_parts, main_values, returned, start, start_tail, unit, unit_item, using_form};
-ghost use Rattle.ooo_units.specs.Loops.{one_more};
+ghost use Rattle.ooo_declarations.specs.Loops.{one_more};
 ghost use Rattle.ooo_units.specs.Parts.{array_end, array_values, count_word, maybe_returned, maybe_start, maybe_word, pointer_values, unit_items};
 
-use crate::keeping::with;
-use crate::main_entries::read_main_entries;
-use crate::members::{read_constant, read_module_form};
-use crate::signs::{begins_with_unit_item, library_of, none_yet};
+use crate::members::read_module_form;
+use crate::signs::{begins_with_unit_item, library_of};
+use ooo_declarations::{read_constant, read_main_entries};
 use ooo_grammar::{
     Limits, Read, ReadError, begins_with_word, next, one, one_inside, read_literal, read_word,
     starts,
 };
-use ooo_statements::{followed, read_boxed_timed_inside};
+use ooo_simple::{followed, none_yet, read_boxed_timed_inside, with};
 use ooo_syntax::{
     Library, Main, MainValues, Mark, Number, StartForm, Symbol, Terminal, Unit, UnitItem, Word,
 };
@@ -33,7 +31,7 @@ fn read_maybe_word<'a>(
     if !begins_with_word(tokens) {
         return Ok((None, tokens));
     }
-    let (word, rest) = read_word(alloc, tokens, limits)?;
+    let (word, rest) = got!(read_word(alloc, tokens, limits));
     Ok((Some(word), rest))
 }
 
@@ -58,9 +56,9 @@ fn read_pointer_values<'a>(
 ) -> Read<'a, MainValues>
     ensures { Gives (reads_at limits pointer_values tokens.now) result }
 {
-    let (_, rest) = one_inside(tokens, Terminal::Star, limits)?;
-    let (word, rest) = read_maybe_word_inside(alloc, rest, limits)?;
-    let (word, rest) = followed(word, Terminal::Close, rest, limits)?;
+    let (_, rest) = got!(one_inside(tokens, Terminal::Star, limits));
+    let (word, rest) = got!(read_maybe_word_inside(alloc, rest, limits));
+    let (word, rest) = got!(followed(word, Terminal::Close, rest, limits));
     Ok((MainValues::Pointer(word), rest))
 }
 
@@ -88,7 +86,7 @@ fn read_array_values<'a>(
 ) -> Read<'a, MainValues>
     ensures { Gives (reads_at limits array_values tokens.now) result }
 {
-    let (word, rest) = read_maybe_word_inside(alloc, tokens, limits)?;
+    let (word, rest) = got!(read_maybe_word_inside(alloc, tokens, limits));
     read_array_end(word, rest, limits)
 }
 
@@ -116,8 +114,8 @@ fn read_count_word<'a>(
 ) -> Read<'a, Option<Word>>
     ensures { Gives (reads_at limits count_word tokens.now) result }
 {
-    let (_, rest) = one(tokens, Terminal::Int, limits)?;
-    let (word, rest) = read_maybe_word(alloc, rest, limits)?;
+    let (_, rest) = got!(one(tokens, Terminal::Int, limits));
+    let (word, rest) = got!(read_maybe_word(alloc, rest, limits));
     let (_, rest) = keeping!(word; one(rest, Terminal::Comma, limits));
     let (_, rest) = keeping!(word; one(rest, Terminal::Char, limits));
     followed(word, Terminal::Star, rest, limits)
@@ -144,7 +142,7 @@ fn read_main_count<'a>(
 ) -> Read<'a, Option<Word>>
     ensures { Gives (reads_at limits main_count tokens.now) result }
 {
-    let (_, rest) = one(tokens, Terminal::Open, limits)?;
+    let (_, rest) = got!(one(tokens, Terminal::Open, limits));
     read_count_word_inside(alloc, rest, limits)
 }
 
@@ -159,11 +157,11 @@ fn read_start_tail<'a>(
     ensures { Gives (reads_at limits (start_tail first) tokens.now) result }
 {
     if starts(tokens, Terminal::Close) {
-        let (_, rest) = one(tokens, Terminal::Close, limits)?;
+        let (_, rest) = got!(one(tokens, Terminal::Close, limits));
         return Ok((StartForm::Open(first.position), rest));
     }
-    let (time, rest) = read_boxed_timed_inside(alloc, tokens, limits)?;
-    let (time, rest) = followed(time, Terminal::Close, rest, limits)?;
+    let (time, rest) = got!(read_boxed_timed_inside(alloc, tokens, limits));
+    let (time, rest) = got!(followed(time, Terminal::Close, rest, limits));
     Ok((StartForm::Limited(first.position, time), rest))
 }
 
@@ -172,9 +170,9 @@ fn read_start_tail<'a>(
 fn read_start<'a>(alloc: Global, tokens: &'a [Symbol<'a>], limits: Limits) -> Read<'a, StartForm>
     ensures { Gives (reads_at limits start tokens.now) result }
 {
-    let (first, rest) = one(tokens, Terminal::ScStart, limits)?;
-    let (_, rest) = one(rest, Terminal::Open, limits)?;
-    let (form, rest) = read_start_tail(alloc, first, rest, limits)?;
+    let (first, rest) = got!(one(tokens, Terminal::ScStart, limits));
+    let (_, rest) = got!(one(rest, Terminal::Open, limits));
+    let (form, rest) = got!(read_start_tail(alloc, first, rest, limits));
     followed(form, Terminal::Semicolon, rest, limits)
 }
 
@@ -183,9 +181,9 @@ fn read_start<'a>(alloc: Global, tokens: &'a [Symbol<'a>], limits: Limits) -> Re
 fn read_returned<'a>(tokens: &'a [Symbol<'a>], limits: Limits) -> Read<'a, Number>
     ensures { Gives (reads_at limits returned tokens.now) result }
 {
-    let (_, rest) = one(tokens, Terminal::Return, limits)?;
-    let (number, rest) = read_literal(rest, limits)?;
-    let (_, rest) = one(rest, Terminal::Semicolon, limits)?;
+    let (_, rest) = got!(one(tokens, Terminal::Return, limits));
+    let (number, rest) = got!(read_literal(rest, limits));
+    let (_, rest) = got!(one(rest, Terminal::Semicolon, limits));
     Ok((number, rest))
 }
 
@@ -201,7 +199,7 @@ fn read_maybe_start<'a>(
     if !starts(tokens, Terminal::ScStart) {
         return Ok((None, tokens));
     }
-    let (form, rest) = read_start(alloc, tokens, limits)?;
+    let (form, rest) = got!(read_start(alloc, tokens, limits));
     Ok((Some(form), rest))
 }
 
@@ -213,7 +211,7 @@ fn read_maybe_returned<'a>(tokens: &'a [Symbol<'a>], limits: Limits) -> Read<'a,
     if !starts(tokens, Terminal::Return) {
         return Ok((None, tokens));
     }
-    let (number, rest) = read_returned(tokens, limits)?;
+    let (number, rest) = got!(read_returned(tokens, limits));
     Ok((Some(number), rest))
 }
 
@@ -272,7 +270,7 @@ fn read_main_body<'a>(
     ensures { Gives (reads_at limits (main_body count values) tokens.now) result }
 {
     let (_, rest) = keeping!(count, values; one(tokens, Terminal::OpenBrace, limits));
-    let (main, rest) = read_main_parts_inside(alloc, count, values, rest, limits)?;
+    let (main, rest) = got!(read_main_parts_inside(alloc, count, values, rest, limits));
     followed(main, Terminal::CloseBrace, rest, limits)
 }
 
@@ -281,9 +279,9 @@ fn read_main_body<'a>(
 fn read_main<'a>(alloc: Global, tokens: &'a [Symbol<'a>], limits: Limits) -> Read<'a, Main>
     ensures { Gives (reads_at limits main tokens.now) result }
 {
-    let (_, rest) = one(tokens, Terminal::Int, limits)?;
-    let (_, rest) = one(rest, Terminal::ScMain, limits)?;
-    let (count, rest) = read_main_count(alloc, rest, limits)?;
+    let (_, rest) = got!(one(tokens, Terminal::Int, limits));
+    let (_, rest) = got!(one(rest, Terminal::ScMain, limits));
+    let (count, rest) = got!(read_main_count(alloc, rest, limits));
     let (values, rest) = keeping!(count; read_main_values(alloc, rest, limits));
     read_main_body(alloc, count, values, rest, limits)
 }
@@ -310,10 +308,10 @@ fn read_library<'a>(tokens: &'a [Symbol<'a>], limits: Limits) -> Read<'a, Librar
 fn read_using_form<'a>(tokens: &'a [Symbol<'a>], limits: Limits) -> Read<'a, Library>
     ensures { Gives (reads_at limits using_form tokens.now) result }
 {
-    let (_, rest) = one(tokens, Terminal::Using, limits)?;
-    let (_, rest) = one(rest, Terminal::Namespace, limits)?;
-    let (library, rest) = read_library(rest, limits)?;
-    let (_, rest) = one(rest, Terminal::Semicolon, limits)?;
+    let (_, rest) = got!(one(tokens, Terminal::Using, limits));
+    let (_, rest) = got!(one(rest, Terminal::Namespace, limits));
+    let (library, rest) = got!(read_library(rest, limits));
+    let (_, rest) = got!(one(rest, Terminal::Semicolon, limits));
     Ok((library, rest))
 }
 
@@ -323,14 +321,14 @@ fn read_unit_item<'a>(alloc: Global, tokens: &'a [Symbol<'a>], limits: Limits) -
     ensures { Gives (reads_at limits unit_item tokens.now) result }
 {
     if starts(tokens, Terminal::Using) {
-        let (library, rest) = read_using_form(tokens, limits)?;
+        let (library, rest) = got!(read_using_form(tokens, limits));
         return Ok((UnitItem::Using(library), rest));
     }
     if starts(tokens, Terminal::ScModule) {
-        let (module, rest) = read_module_form(alloc, tokens, limits)?;
+        let (module, rest) = got!(read_module_form(alloc, tokens, limits));
         return Ok((UnitItem::Module(module), rest));
     }
-    let (constant, rest) = read_constant(alloc, tokens, limits)?;
+    let (constant, rest) = got!(read_constant(alloc, tokens, limits));
     Ok((UnitItem::Constant(constant), rest))
 }
 
@@ -376,7 +374,7 @@ fn read_unit_items<'a>(
 pub fn read_unit<'a>(alloc: Global, tokens: &'a [Symbol<'a>], limits: Limits) -> Read<'a, Unit>
     ensures { Gives (reads_at limits unit tokens.now) result }
 {
-    let (items, rest) = read_unit_items(alloc, tokens, limits)?;
+    let (items, rest) = got!(read_unit_items(alloc, tokens, limits));
     let (main, rest) = keeping!(items; read_main(alloc, rest, limits));
     Ok((Unit { items, main }, rest))
 }

@@ -1,6 +1,7 @@
-ghost use Rattle.std.specs.Prelude.{◌≡◌, [], IfOk};
+ghost use Rattle.std.specs.Prelude.{◌≡◌, [], IfOk, OnOk};
 ghost use Rattle.ooo_walk.specs.Plans.{filed, plans_from};
-ghost use Rattle.ooo_walk.specs.Texts.{at_first, file_of, walk_of};
+ghost use Rattle.ooo_walk.specs.Texts.{at_first, file_of, item_of, main_item_of, start_of, walk_of};
+ghost use Rattle.ooo_walk.specs.States.{in_order, unless_refused};
 
 use crate::children::entered;
 use crate::plan::{Modules, Plan};
@@ -31,6 +32,27 @@ fn at_first(alloc: Global) -> Walk
     }
 }
 
+impl Walk {
+    // The declarations of a text, from the file's to those of `sc_main`, until something is refused.
+    fn text(&mut self, alloc: Global, unit: &CheckedUnit, plans: &[Plan]) -> Result<(), AllocError>
+        requires { plans.now ≡ plans_from 0 unit.now.items }
+        ensures { OnOk result (self.new ≡ unless_refused (start_of unit.now.main.start)
+            (in_order (main_item_of (file_of unit.now)) unit.now.main.items
+            (in_order item_of unit.now.items self.old))) }
+    {
+        let modules = Modules {
+            items: unit.items.as_slice(),
+            plans,
+        };
+        self.file_items(alloc, unit.items.as_slice())?;
+        self.main_items(alloc, modules, unit.main.items.as_slice())?;
+        if self.refusal.is_none() {
+            self.start_form(alloc, &unit.main.start)?;
+        }
+        Ok(())
+    }
+}
+
 /// Walks the declarations of a text, whose names the plans are of: what is known of it when all of it has been walked, or
 /// what was refused first.
 ///
@@ -41,15 +63,9 @@ pub fn walk(alloc: Global, unit: &CheckedUnit, plans: &[Plan]) -> Result<Walk, A
     requires { plans.now ≡ plans_from 0 unit.now.items }
     ensures { IfOk result (λ walk. walk ≡ walk_of unit.now) }
 {
-    let modules = Modules {
-        items: unit.items.as_slice(),
-        plans,
-    };
     let mut walk = at_first(alloc);
-    walk.file_items(alloc, unit.items.as_slice())?;
-    walk.main_items(alloc, modules, unit.main.items.as_slice())?;
-    if walk.refusal.is_none() {
-        walk.start_form(alloc, &unit.main.start)?;
+    match walk.text(alloc, unit, plans) {
+        Ok(()) => Ok(walk),
+        Err(error) => Err(error),
     }
-    Ok(walk)
 }

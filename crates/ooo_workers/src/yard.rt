@@ -4,7 +4,7 @@ ghost use Rattle.ooo_dispatch.specs.declared.step.Step.TheVariants.{Abandon, Com
 ghost use Rattle.ooo_board.specs.Boards.{rules, state, with_step};
 ghost use Rattle.ooo_workers.specs.Boards.{Begins, IsGivenOn, IsQuiet};
 ghost use Rattle.ooo_workers.specs.Passes.{Acted, Closes, EndIs, GaveAndTook, Has, Ranged, Rested, RoundIs, Stepped, TurnIs, WorkedIs, fresh_from, job_or_end, out_from};
-ghost use Rattle.ooo_workers.specs.Rule.{KeepsJob, May, noted, seized, stepped};
+ghost use Rattle.ooo_workers.specs.Rule.{KeepsJob, May, first_view, noted, seized, stepped};
 
 use crate::board_box::BoardBox;
 use crate::lengths::Lengths;
@@ -106,6 +106,36 @@ fn process_of(turn: &Result<Option<Turn>, AllocError>) -> Option<u32>
     }
 }
 
+// The one slot of the table, with the board in it.
+fn slots_of(alloc: Global, board: BoardBox) -> Result<Vec<Option<BoardBox>>, AllocError>
+    ensures { IfOk result (λ slots. slots.items ≡ Some board ∷ []) }
+{
+    let mut slots = Vec::with_capacity(alloc, 1)?;
+    slots.push_reserved(Some(board));
+    Ok(slots)
+}
+
+// The table over its slot, with the first view.
+fn table_of(
+    alloc: Global,
+    slots: Vec<Option<BoardBox>>,
+    origin: &Origin,
+) -> Result<(Table<Option<BoardBox>, View, Origin, Law, Global>, Place), AllocError>
+    requires some { 0 < origin.now.passes }
+    requires board { (slots.items ≡ Some origin.now.board.value ∷ [])
+        × IsQuiet origin.now.board.value }
+    ensures counts { IfOk result (λ r. (r.0.shared.table_id.words ≡ 1)
+        × (r.0.shared.table_id.slots ≡ 1)) }
+    ensures key { IfOk result (λ r. r.0.shared.key ≡ origin.now) }
+    ensures seat { IfOk result (λ r. (r.1.table_id ≡ r.0.shared.table_id)
+        × (r.1.me ≡ (first_view origin.now, []))) }
+{
+    match Table::new(alloc, &[0], slots, origin) {
+        Ok(made) => Ok(made),
+        Err(Refused { slots: _ }) => Err(AllocError),
+    }
+}
+
 impl Yard {
     // How often the turn is looked for before the processor is left to others.
     const SPINS: u32 = 200;
@@ -121,21 +151,34 @@ impl Yard {
         ensures { IfOk result (λ r. (r.0.passes ≡ passes)
             × (r.1.items ≡ fresh_from r.0.table.shared.table_id board 0 passes)) }
     {
-        let mut all = Vec::with_capacity(alloc, passes as usize)?;
+        let processes = board.holds().len();
         let origin = Origin {
             board: Snapshot::of(&board),
             passes,
         };
-        let lengths = Lengths::unknown(alloc, board.holds().len())?;
-        let mut slots = Vec::with_capacity(alloc, 1)?;
-        slots.push_reserved(Some(BoardBox::new(alloc, board)?));
-        let (table, first) = match Table::new(alloc, &[0], slots, &origin) {
-            Ok(made) => made,
-            Err(Refused { slots: _ }) => return Err(AllocError),
-        };
+        let board = BoardBox::new(alloc, board)?;
+        Yard::around(alloc, board, &origin, processes)
+    }
+
+    // A yard round a board of so many processes, and its passes.
+    fn around(
+        alloc: Global,
+        board: BoardBox,
+        origin: &Origin,
+        processes: usize,
+    ) -> Result<(Yard, Vec<Pass>), AllocError>
+        requires some { 0 < origin.now.passes }
+        requires board { (origin.now.board.value ≡ board) × IsQuiet board }
+        ensures { IfOk result (λ r. (r.0.passes ≡ origin.now.passes)
+            × (r.1.items ≡ fresh_from r.0.table.shared.table_id board 0 origin.now.passes)) }
+    {
+        let slots = slots_of(alloc, board)?;
+        let lengths = Lengths::unknown(alloc, processes)?;
+        let mut all = Vec::with_capacity(alloc, origin.passes as usize)?;
+        let (table, first) = table_of(alloc, slots, origin)?;
         let yard = Yard {
             table,
-            passes,
+            passes: origin.passes,
             sleepers: AtomicU64::new(0),
             lengths,
             alloc,

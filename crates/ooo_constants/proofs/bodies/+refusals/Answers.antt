@@ -8,7 +8,7 @@ use Rattle.ooo_constants.proofs.bodies.+refusals.Goals as goal
 pub refuse_stat-returns-in-Block : goal.refuse_stat-returns-in-Block
 refuse_stat-returns-in-Block t c =
     rw (c.in-Block.is, refusals_of_block (constants_of c.args.known) c.in-Block.field-0 c.in-Block.body)
-    (c.refuse_times.ensures ∙ ap (λ xs. told_of c.args.told.now (body_refusals (constants_of c.args.known) xs)) c.as_slice.ensures)
+    (c.refuse_stats.ensures ∙ ap (λ xs. told_of c.args.told.now (body_refusals (constants_of c.args.known) xs)) c.as_slice.ensures)
 
 pub refuse_stat-returns-in-If : goal.refuse_stat-returns-in-If
 refuse_stat-returns-in-If t c =
@@ -23,8 +23,8 @@ refuse_stat-returns-in-For t c =
     c.refuse_stat-in-For.new.told c.in-For.is c.get-in-For.ensures c.refuse_start.ensures c.refuse_step.ensures
     c.refuse_stat-in-For.ensures
 
-pub refuse_times-parts-preserved : goal.refuse_times-parts-preserved
-refuse_times-parts-preserved t c =
+pub refuse_stats-parts-preserved : goal.refuse_stats-parts-preserved
+refuse_stats-parts-preserved t c =
     let k : Constants = constants_of c.args.known in
     told_more k c.parts.told c.refuse_stat.new.told (told_of c.args.told.now (body_refusals k c.args.body.now)) c.args.body.now
     c.parts.statement-index c.statement-item.result c.parts-test.true c.statement-item.is c.refuse_stat.ensures c.parts.invariant

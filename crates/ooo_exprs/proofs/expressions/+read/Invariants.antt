@@ -10,11 +10,8 @@ use Rattle.ooo_exprs.proofs.expressions.+read.Given as goal
 abbrev pub decreases-read_inner : goal.decreases-read_inner
 decreases-read_inner l = l.limits.levels * 64 + 0
 
-abbrev pub decreases-read_inner_inside : goal.decreases-read_inner_inside
-decreases-read_inner_inside l = l.limits.levels * 64 + 1
-
 abbrev pub decreases-read_index : goal.decreases-read_index
-decreases-read_index l = l.limits.levels * 64 + 1
+decreases-read_index l = l.limits.levels * 64 + 2
 
 abbrev pub decreases-read_operand : goal.decreases-read_operand
 decreases-read_operand l = l.limits.levels * 64 + 0
@@ -32,7 +29,13 @@ abbrev pub decreases-read_some : goal.decreases-read_some
 decreases-read_some l = l.limits.levels * 64 + 2
 
 abbrev pub decreases-read_member : goal.decreases-read_member
-decreases-read_member l = l.limits.levels * 64 + 1
+decreases-read_member l = l.limits.levels * 64 + 3
+
+abbrev pub decreases-read_option_in_parens : goal.decreases-read_option_in_parens
+decreases-read_option_in_parens l = l.limits.levels * 64 + 2
+
+abbrev pub decreases-read_boxed_inner : goal.decreases-read_boxed_inner
+decreases-read_boxed_inner l = l.limits.levels * 64 + 1
 
 abbrev pub decreases-read_after_word : goal.decreases-read_after_word
 decreases-read_after_word l = l.limits.levels * 64 + 5
@@ -66,12 +69,6 @@ decreases-read_inside l = l.limits.levels * 64 + 17
 
 abbrev pub decreases-read_cast_to : goal.decreases-read_cast_to
 decreases-read_cast_to l = l.limits.levels * 64 + 1
-
-abbrev pub decreases-read_chosen_inside : goal.decreases-read_chosen_inside
-decreases-read_chosen_inside l = l.limits.levels * 64 + 3
-
-abbrev pub decreases-read_converted_inside : goal.decreases-read_converted_inside
-decreases-read_converted_inside l = l.limits.levels * 64 + 3
 
 abbrev pub decreases-read_conversion_first : goal.decreases-read_conversion_first
 decreases-read_conversion_first l = l.limits.levels * 64 + 18

@@ -4,12 +4,19 @@ use Rattle.std.proofs.lemmas.List.{get_or_default}
 use Rattle.ooo_fronts.specs.Holds.{holds_from}
 use Rattle.ooo_fronts.specs.Reaching.{CanBeHeldBy, IsListOf}
 use Rattle.ooo_fronts.proofs.Counted.{few_so_far, fit_at, held_none, held_some}
+use Rattle.ooo_fronts.proofs.Entries.{column_all, column_first, column_more, column_none, column_stays}
 use Rattle.ooo_fronts.proofs.Mending.{holders_are_all, total_of_fronts}
 use Rattle.ooo_fronts.proofs.Reached.{added_all, added_first, added_more, added_so_far}
 use Rattle.ooo_fronts.proofs.fronts.count_of.Goals as goal
 
 pub returns-in_default : goal.returns-in_default
-returns-in_default c = sym (held_none c.args.tables.now c.args.fronts.now c.args.p c.in_default.is)
+returns-in_default c =
+    let a = c.args in
+    record {
+      count = sym (held_none a.tables.now a.fronts.now a.p c.in_default.is);
+      others = column_stays (length a.fronts.now) a.p a.holds.now;
+      column = column_none a.tables.now a.fronts.now a.p a.holds.now c.in_default.is;
+    }
 
 pub holders-holders-requires : goal.holders-holders-requires
 holders-holders-requires c =
@@ -28,7 +35,10 @@ loop-q-init c =
     let xs = c.holders-holders.result.now in
     let list = subst (IsListOf (CanBeHeldBy t a.p)) (sym c.holders-holders.ensures) (c.requires.reaches.holders.each a.p lt) in
     let all = holders_are_all t a.reaches.now a.fronts.now a.p f xs c.requires.reaches c.requires.fit c.in-Some.is list in
-    sym (added_first (holds_from t a.fronts.now a.p f) (length a.fronts.now + length a.reaches.now.holders) xs all)
+    record {
+      count = sym (added_first (holds_from t a.fronts.now a.p f) (length a.fronts.now + length a.reaches.now.holders) xs all);
+      column = column_first t a.fronts.now a.p f c.in-Some.is xs a.holds.now;
+    }
 
 pub holds_from-count-requires-clause-held : goal.holds_from-count-requires-clause-held
 holds_from-count-requires-clause-held c = fit_at c.args.tables.now c.args.fronts.now c.requires.fit c.args.p c.in-Some.f c.in-Some.is
@@ -51,8 +61,8 @@ overflow_add-count c =
     let same = total_of_fronts t a.fronts.now a.p f (length a.reaches.now.holders) in
     let few = few_so_far t a.fronts.now a.p f (length a.fronts.now) c.requires.aligned in
     let here = ap from (get_or_default xs i 0 n c.loop-q-test.true) in
-    let is = c.holds_from-count.ensures in
-    let so_far = c.loop-q.invariant in
+    let is = c.holds_from-count.ensures.count in
+    let so_far = c.loop-q.invariant.count in
     let processes = c.requires.few in
     omega (arith, more, top, same, few, here, is, so_far, processes)
 
@@ -71,9 +81,12 @@ loop-q-preserved c =
     let all = holders_are_all t a.reaches.now a.fronts.now a.p f xs c.requires.reaches c.requires.fit c.in-Some.is list in
     let more = added_more from n xs all i c.loop-q-test.true in
     let here = ap from (get_or_default xs i 0 n c.loop-q-test.true) in
-    let is = c.holds_from-count.ensures in
-    let so_far = c.loop-q.invariant in
-    omega (arith, more, here, is, so_far)
+    let is = c.holds_from-count.ensures.count in
+    let so_far = c.loop-q.invariant.count in
+    record {
+      count = omega (arith, more, here, is, so_far);
+      column = column_more t a.fronts.now a.p f c.in-Some.is xs a.holds.now i c.loop-q.holds c.holds_from-count.new.holds c.loop-q.invariant.column c.holds_from-count.ensures.others c.holds_from-count.ensures.entry;
+    }
 
 pub returns : goal.returns
 returns c =
@@ -87,4 +100,9 @@ returns c =
     let from = holds_from t a.fronts.now a.p f in
     let list = subst (IsListOf (CanBeHeldBy t a.p)) (sym c.holders-holders.ensures) (c.requires.reaches.holders.each a.p lt) in
     let all = holders_are_all t a.reaches.now a.fronts.now a.p f xs c.requires.reaches c.requires.fit c.in-Some.is list in
-    c.loop-q.invariant ∙ added_all from n xs all c.loop-q.q-index c.loop-q-test.false ∙ total_of_fronts t a.fronts.now a.p f (length a.reaches.now.holders) ∙ sym (held_some t a.fronts.now a.p f c.in-Some.is)
+    record {
+      count =
+          c.loop-q.invariant.count ∙ added_all from n xs all c.loop-q.q-index c.loop-q-test.false ∙ total_of_fronts t a.fronts.now a.p f (length a.reaches.now.holders) ∙ sym (held_some t a.fronts.now a.p f c.in-Some.is);
+      others = c.loop-q.invariant.column.others;
+      column = column_all t a.fronts.now a.p f c.in-Some.is xs a.holds.now c.loop-q.q-index c.loop-q.holds c.requires.fit list c.loop-q-test.false c.loop-q.invariant.column;
+    }

@@ -1,5 +1,4 @@
 use Rattle.std.proofs.Common.{subst}
-use Rattle.ooo_lexer.specs.Numerals.{number_of}
 use Rattle.ooo_lexer.proofs.Numerals.{IsOutcome, number_sound, number_complete}
 use Rattle.ooo_lexer.proofs.law.number_found.Goals as goal
 

@@ -8,7 +8,7 @@ use Rattle.ooo_grammar.specs.Statements.{after_while, block_stat, do_stat, for_s
 use Rattle.ooo_grammar.specs.Steps.{stops_first, stops_second, got_second, loop_turn, loop_stops}
 use Rattle.ooo_statements.specs.Loops.{next_stat}
 use Rattle.ooo_statements.proofs.Elses.{else_gives, if_tail}
-use Rattle.ooo_statements.proofs.Tails.{gives_second}
+use Rattle.ooo_simple.specs.Steps.{gives_second}
 use Rattle.ooo_statements.proofs.Blocks.{stats_init, none_stops}
 use Rattle.ooo_statements.proofs.statements.+statement.Goals as goal
 

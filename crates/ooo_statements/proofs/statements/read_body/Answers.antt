@@ -1,6 +1,6 @@
 use Rattle.ooo_grammar.specs.Statements.{body}
 use Rattle.ooo_grammar.specs.Steps.{stops_first, stops_second}
-use Rattle.ooo_statements.proofs.Tails.{gives_second}
+use Rattle.ooo_simple.specs.Steps.{gives_second}
 use Rattle.ooo_statements.proofs.statements.read_body.Goals as goal
 
 pub returns-in-Err : goal.returns-in-Err

@@ -3,8 +3,8 @@ use Rattle.std.proofs.lemmas.Grind.{common_steps}
 use Rattle.ooo_syntax.specs.declared.terminal.Terminal.TheVariants as terminal
 use Rattle.ooo_grammar.specs.Sets.{in_set}
 use Rattle.ooo_grammar.specs.Members.{field}
-use Rattle.ooo_units.specs.Loops.{next_item}
-use Rattle.ooo_units.proofs.Turns.{turn_made, turn_refused}
+use Rattle.ooo_simple.specs.Loops.{next_item}
+use Rattle.ooo_simple.specs.Steps.{turn_made, turn_refused}
 use Rattle.ooo_units.proofs.members.read_further_fields.Goals as goal
 
 pub returns-in_err-more : goal.returns-in_err-more

@@ -5,7 +5,7 @@ use Rattle.ooo_grammar.specs.Sets.{in_set}
 use Rattle.ooo_grammar.specs.Gives.{reads_at}
 use Rattle.ooo_grammar.specs.Members.{field}
 use Rattle.ooo_units.specs.Parts.{further_fields}
-use Rattle.ooo_units.specs.Loops.{next_item}
+use Rattle.ooo_simple.specs.Loops.{next_item}
 use Rattle.ooo_units.proofs.members.read_further_fields.Given as goal
 
 abbrev pub invariant-turns : goal.invariant-turns

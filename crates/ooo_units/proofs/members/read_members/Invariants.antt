@@ -1,10 +1,10 @@
-use Rattle.std.proofs.Common.{◌≡◌, ◌-◌, [], ◌∷◌}
+use Rattle.std.proofs.Common.{◌≡◌, ◌-◌}
 use Rattle.ooo_grammar.specs.Forms.{repeats_in}
 use Rattle.ooo_grammar.specs.Sets.{in_set}
 use Rattle.ooo_grammar.specs.Gives.{reads_at}
 use Rattle.ooo_grammar.specs.Members.{begins_member, member}
 use Rattle.ooo_units.specs.Parts.{members}
-use Rattle.ooo_units.specs.Loops.{one_more}
+use Rattle.ooo_declarations.specs.Loops.{one_more}
 use Rattle.ooo_units.proofs.members.read_members.Given as goal
 
 abbrev pub invariant-turns : goal.invariant-turns

@@ -1,10 +1,10 @@
-use Rattle.std.proofs.Common.{[], ◌∷◌, arith, rules}
+use Rattle.std.proofs.Common.{arith, rules}
 use Rattle.std.proofs.lemmas.Grind.{common_steps}
 use Rattle.ooo_grammar.specs.Sets.{in_set}
 use Rattle.ooo_grammar.specs.Units.{unit_item}
 use Rattle.ooo_units.specs.Parts.{begins_unit_item}
-use Rattle.ooo_units.specs.Loops.{one_more}
-use Rattle.ooo_units.proofs.Turns.{turn_made, turn_refused}
+use Rattle.ooo_declarations.specs.Loops.{one_more}
+use Rattle.ooo_simple.specs.Steps.{turn_made, turn_refused}
 use Rattle.ooo_units.proofs.units.read_unit_items.Goals as goal
 
 pub returns-in_err-more : goal.returns-in_err-more

@@ -11,4 +11,4 @@ returns c = λ fronts are.
     let b = c.args.self.now in
     let has = subst (λ x. IsKept x c.self.inside.core) c.self.view_is c.self.invariant.has in
     let same = same_fronts (rules b) (state b).board c.self.inside.core.fronts.fronts fronts has.core.has_fronts are in
-    rw (c.counts.ensures) (subst (λ l. AreCounts b.tables l c.self.inside.core.fronts.counts) same has.core.has_counts)
+    rw (c.counts.ensures) (subst (λ l. AreCounts b.tables l c.self.inside.core.fronts.counts) same has.core.has_kept.counts)

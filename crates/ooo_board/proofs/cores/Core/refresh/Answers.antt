@@ -47,4 +47,4 @@ returns c = λ r s may_wake.
     let at = stands c.args.self.now.processes.items c.args.q c.index-2.result.now c.requires.within c.index-2.ensures in
     let may = may_ask_front r c.args.tables.now s c.args.self.now c.args.q waking c.index-2.result.now at waits in
     refreshed r c.args.tables.now s c.args.self.now c.args.q waking c.index-2.result.now at waits c.front_by-front.result (c.front_by-front.ensures r s.board may)
-    c.give.new.self c.give.ensures.others c.give.ensures.fronts c.give.ensures.fit c.give.ensures.counts (omega arith)
+    c.give.new.self c.give.ensures.others c.give.ensures.fronts c.give.ensures.fit c.give.ensures.kept (omega arith)

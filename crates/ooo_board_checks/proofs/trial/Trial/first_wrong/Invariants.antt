@@ -1,5 +1,0 @@
-use Rattle.ooo_board_checks.specs.Trials.{AreHeld}
-use Rattle.ooo_board_checks.proofs.trial.Trial.first_wrong.Given as goal
-
-abbrev pub invariant-loop-n : goal.invariant-loop-n
-invariant-loop-n l = AreHeld l.self.board l.self.given.items

@@ -1,0 +1,14 @@
+use Rattle.std.proofs.Common.{List, sym, ap}
+use Rattle.ooo_syntax.specs.declared.module.Init.{Init}
+use Rattle.ooo_grammar.specs.Forms.{Got}
+use Rattle.ooo_grammar.specs.Steps.{stops_first, stops_second, got_second}
+use Rattle.ooo_declarations.proofs.constructors.read_next_init.Goals as goal
+
+pub returns-in-Err : goal.returns-in-Err
+returns-in-Err c = stops_first _ _ _ c.in-Err.ensures
+
+pub returns-in-Err-read_init : goal.returns-in-Err-read_init
+returns-in-Err-read_init c = stops_second _ _ c.in-Ok.ensures (stops_first _ _ _ c.in-Err-read_init.ensures)
+
+pub returns : goal.returns
+returns c = got_second _ c.in-Ok.ensures (got_second _ c.in-Ok-read_init.ensures (ap (λ (x : List Init). Got x c.in-Ok-read_init.found.1.now) (sym c.in_ok-with.ensures)))

@@ -1,0 +1,12 @@
+use Rattle.ooo_grammar.specs.Units.{clock}
+use Rattle.ooo_grammar.specs.Steps.{stops_first}
+use Rattle.ooo_simple.specs.Steps.{gives_second}
+use Rattle.ooo_declarations.proofs.main_entries.read_clock.Goals as goal
+
+pub returns-in-Err : goal.returns-in-Err
+unfolding clock
+returns-in-Err c = stops_first _ _ _ c.in-Err.ensures
+
+pub returns : goal.returns
+unfolding clock
+returns c = gives_second _ _ c.in-Ok.ensures c.read_clock_tail.ensures

@@ -1,0 +1,11 @@
+use Rattle.std.proofs.Common.{List, sym, ap}
+use Rattle.ooo_syntax.specs.declared.unit.MainItem.{MainItem}
+use Rattle.ooo_grammar.specs.Forms.{Got}
+use Rattle.ooo_grammar.specs.Steps.{stops_first, got_second}
+use Rattle.ooo_declarations.proofs.main_entries.read_one_more_main_entry.Goals as goal
+
+pub returns-in-Err : goal.returns-in-Err
+returns-in-Err c = stops_first _ _ _ c.in-Err.ensures
+
+pub returns : goal.returns
+returns c = got_second _ c.in-Ok.ensures (ap (λ (x : List MainItem). Got x c.in-Ok.found.1.now) (sym c.in_ok-joined.ensures))

@@ -1,0 +1,12 @@
+use Rattle.std.proofs.Common.{◌≡◌, ◌-◌, [], ◌∷◌}
+use Rattle.ooo_syntax.specs.declared.terminal.Terminal.TheVariants as terminal
+use Rattle.ooo_grammar.specs.Forms.{repeats_in}
+use Rattle.ooo_grammar.specs.Sets.{in_set}
+use Rattle.ooo_grammar.specs.Gives.{reads_at}
+use Rattle.ooo_grammar.specs.Members.{param}
+use Rattle.ooo_declarations.specs.Parts.{some_params}
+use Rattle.ooo_simple.specs.Loops.{next_item}
+use Rattle.ooo_declarations.proofs.params.read_some_params.Given as goal
+
+abbrev pub invariant-turns : goal.invariant-turns
+invariant-turns l = reads_at l.limits some_params l.tokens ≡ repeats_in (in_set (terminal.Comma ∷ [])) (next_item l.limits terminal.Comma param) (l._turn-end - l._turn) l.list l.rest

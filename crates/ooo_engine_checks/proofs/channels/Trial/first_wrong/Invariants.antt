@@ -1,5 +1,0 @@
-use Rattle.ooo_engine_checks.specs.Trials.{IsTrial}
-use Rattle.ooo_engine_checks.proofs.channels.Trial.first_wrong.Given as goal
-
-abbrev pub invariant-loop-n : goal.invariant-loop-n
-invariant-loop-n l = IsTrial l.self.kind l.self.bank l.self.last

@@ -1,5 +1,0 @@
-use Rattle.ooo_engine_checks.specs.Trials.{IsTrial}
-use Rattle.ooo_engine_checks.proofs.channels.fifo_wraps.Given as goal
-
-abbrev pub invariant-loop-round : goal.invariant-loop-round
-invariant-loop-round g l = IsTrial l.trial.kind l.trial.bank l.trial.last

@@ -1,0 +1,12 @@
+use Rattle.std.proofs.Common.{◌≡◌, ◌-◌, [], ◌∷◌, refl}
+use Rattle.ooo_syntax.specs.declared.terminal.Terminal.TheVariants as terminal
+use Rattle.ooo_grammar.specs.Forms.{repeats_in}
+use Rattle.ooo_grammar.specs.Sets.{in_set}
+use Rattle.ooo_grammar.specs.Combinators.{separated}
+use Rattle.ooo_grammar.specs.Statements.{item}
+use Rattle.ooo_grammar.specs.Gives.{reads_at}
+use Rattle.ooo_simple.specs.Loops.{next_item}
+use Rattle.ooo_simple.proofs.prints.read_items.Given as goal
+
+abbrev pub invariant-turns : goal.invariant-turns
+invariant-turns l = reads_at l.limits (separated terminal.ShiftLeft item refl) l.tokens ≡ repeats_in (in_set (terminal.ShiftLeft ∷ [])) (next_item l.limits terminal.ShiftLeft item) (l._turn-end - l._turn) l.list l.rest

@@ -1,0 +1,12 @@
+use Rattle.ooo_grammar.specs.Steps.{stops_first, stops_second}
+use Rattle.ooo_exprs.specs.Steps.{gives_second}
+use Rattle.ooo_simple.proofs.simple.read_cancel.Goals as goal
+
+pub returns-in-Err : goal.returns-in-Err
+returns-in-Err c = stops_first _ _ _ c.in-Err.ensures
+
+pub returns-in-Err-one : goal.returns-in-Err-one
+returns-in-Err-one c = stops_second _ _ c.in-Ok.ensures (stops_first _ _ _ c.in-Err-one.ensures)
+
+pub returns : goal.returns
+returns c = gives_second _ _ c.in-Ok.ensures (gives_second _ _ c.in-Ok-one.ensures c.followed.ensures)

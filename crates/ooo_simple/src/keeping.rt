@@ -1,0 +1,22 @@
+ghost use Rattle.ooo_grammar.specs.Combinators.{quoted, to};
+ghost use Rattle.ooo_grammar.specs.Gives.{Gives, reads_at};
+
+use ooo_grammar::{Limits, Read, one};
+use ooo_syntax::{Symbol, Terminal};
+
+// Lets a value go.
+pub(crate) fn discard<T: Drop>(_value: T) {}
+
+/// Reads a token after what was found already, and hands that back.
+#[tactic(auto, using(ooo_grammar::specs::Steps::steps))]
+pub fn followed<'a, T: Drop>(
+    found: T,
+    terminal: Terminal,
+    tokens: &'a [Symbol<'a>],
+    limits: Limits,
+) -> Read<'a, T>
+    ensures { Gives (reads_at limits (to (λ _. found) (quoted terminal)) tokens.now) result }
+{
+    let (_, rest) = keeping!(found; one(tokens, terminal, limits));
+    Ok((found, rest))
+}

@@ -1,0 +1,28 @@
+ghost use Rattle.std.specs.Prelude.{◌≡◌, ◌∷◌, ◌++◌, [], IfOk};
+
+use ooo_syntax::Symbol;
+use sqlite_items::Items;
+use std::alloc::{AllocError, Global};
+
+/// A list of one item, to which more are added.
+pub fn begun<T: Drop>(alloc: Global, first: T) -> Result<Items<T>, AllocError>
+    ensures { IfOk result (λ all. all ≡ first ∷ []) }
+{
+    with(Items::new(alloc), first)
+}
+
+/// A list with one more item.
+pub fn with<T: Drop>(mut list: Items<T>, more: T) -> Result<Items<T>, AllocError>
+    ensures { IfOk result (λ all. all ≡ list ++ more ∷ []) }
+{
+    keeping!(list; list.push(more));
+    Ok(list)
+}
+
+/// No items and all tokens: how a loop begins.
+pub fn none_yet<'a, T>(alloc: Global, tokens: &'a [Symbol<'a>]) -> (Items<T>, &'a [Symbol<'a>])
+    ensures list { result.0 ≡ [] }
+    ensures rest { result.1.now ≡ tokens.now }
+{
+    (Items::new(alloc), tokens)
+}

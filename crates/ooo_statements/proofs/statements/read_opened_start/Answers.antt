@@ -1,9 +1,0 @@
-use Rattle.ooo_grammar.specs.Steps.{stops_first}
-use Rattle.ooo_statements.proofs.Tails.{gives_second}
-use Rattle.ooo_statements.proofs.statements.read_opened_start.Goals as goal
-
-pub returns-in-Err : goal.returns-in-Err
-returns-in-Err c = stops_first _ _ _ c.in-Err.ensures
-
-pub returns : goal.returns
-returns c = gives_second _ _ c.in-Ok.ensures c.read_ended_start_inside.ensures
