@@ -12,18 +12,18 @@ pub struct Mark {
 /// A token as the grammar sees it. The pairs `std ::` and `sc_core ::` before a word belong to the word's symbol.
 #[derive(Clone, Copy)]
 pub struct Symbol<'a> {
-    /// What it is to the grammar.
-    pub terminal: Terminal,
     /// Its bytes in the source, without pairs, and a text's with its quotes.
     pub text: &'a [u8],
     /// A number's value; any other's is the `int` 0.
     pub value: Value,
-    /// Whether it is an operator where it stands in an expression.
-    pub counts: bool,
-    /// How many symbols before it count.
-    pub before: u32,
     /// Where its text stands.
     pub position: Position,
     /// Where the first of its pairs stands, or its text where it has none.
     pub first: Position,
+    /// How many symbols before it count.
+    pub before: u32,
+    /// What it is to the grammar.
+    pub terminal: Terminal,
+    /// Whether it is an operator where it stands in an expression.
+    pub counts: bool,
 }
