@@ -1,5 +1,5 @@
 -- Variables that a job carries, each as its number and its elements.
-use Rattle.std.specs.Prelude.{ℕ, ◌==◌, ◌<◌, List, [], ◌∷◌, map, replicate, if◌then◌else◌, Option, Some, None, AllPairs, slice_set}
+use Rattle.std.specs.Prelude.{◌≡◌, ℕ, ◌==◌, ◌<◌, ◌≤◌, ◌+◌, List, [], ◌∷◌, map, replicate, if◌then◌else◌, Option, Some, None, AllPairs, slice_get, slice_set}
 use Rattle.ooo_value.specs.declared.values.Value.{Value}
 
 -- a variable's number and its elements
@@ -34,3 +34,8 @@ all_cells count owned copied = put_in owned (put_in copied (replicate count []))
 -- the numbers of the variables that are carried
 abbrev pub numbers_of : List Carried → List ℕ
 numbers_of carried = map (λ c. c.0) carried
+
+-- the first n have numbers one after another, from a first number on, all of 32 bits
+abbrev pub StandInOrder : (first n : ℕ) → List Carried → Type 0
+StandInOrder first n carried =
+    (first + n ≤ 4294967296) × ((k : ℕ) → k < n → slice_get (numbers_of carried) k ≡ Some (first + k))

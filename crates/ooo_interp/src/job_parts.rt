@@ -1,6 +1,6 @@
-ghost use Rattle.std.specs.Prelude.{◌≡◌, ◌<◌, ℕ, [], slice_get, slice_set, unwrap_or, None, Some, MatchOption, All, IsSomeAnd, is_some};
+ghost use Rattle.std.specs.Prelude.{◌≡◌, ◌<◌, ◌+◌, ℕ, [], length, IsTrue, slice_get, slice_set, unwrap_or, None, Some, MatchOption, All, IsSomeAnd, is_some};
 ghost use Rattle.ooo_code.specs.Expressions.{cells_of};
-ghost use Rattle.ooo_interp.specs.Carrying.{IsAscending, all_cells, listed, put_in, with_listed};
+ghost use Rattle.ooo_interp.specs.Carrying.{IsAscending, StandInOrder, all_cells, listed, numbers_of, with_listed};
 
 use crate::parts::Lent;
 use crate::ports::Ports;
@@ -20,8 +20,12 @@ pub struct JobParts {
     pub fifos: SeenFifos,
     /// How many variables the design has.
     pub count: usize,
-    /// Where a variable is looked for first: as far on among those that may be changed as its number is above this one.
+    /// The number of the first variable that may be changed.
     pub first: u32,
+    /// So many of those that may be changed, from the first one on, have numbers one after another: such a one stands as
+    /// far on as its number is above the first.
+    pub in_order: usize,
+    ghost owned_in_order: { StandInOrder first in_order owned.items },
     ghost owned_ascending: { IsAscending owned.items },
     ghost copied_ascending: { IsAscending copied.items },
     ghost owned_below: { All (λ c. c.0 < count) owned.items },
@@ -49,7 +53,7 @@ impl Lent for JobParts {
     #[inline(always)]
     fn cells(&self, variable: u32) -> &[Value] {
         let at = variable.wrapping_sub(self.first) as usize;
-        if at < self.owned.len() && self.owned[at].0 == variable {
+        if at < self.in_order {
             return self.owned[at].1.as_slice();
         }
         self.cells_elsewhere(variable)
@@ -86,12 +90,14 @@ impl Lent for JobParts {
 
     #[inline(always)]
     fn set_cell(&mut self, variable: u32, at: usize, v: Value) {
-        if set_in(&mut self.owned, self.first, variable, at, &v) {
+        let place = variable.wrapping_sub(self.first) as usize;
+        if place < self.in_order {
+            set_at(&mut self.owned, place, at, v);
             return;
         }
-        if (variable as usize) < self.count {
-            set_by_search(&mut self.copied, variable, at, &v);
-        }
+        // A copy is lent: the value itself would then be written to the stack for each change.
+        let value = v;
+        self.set_elsewhere(variable, at, &value);
     }
 
     fn take(&mut self, channel: u32) {
@@ -116,9 +122,29 @@ impl JobParts {
         }
         cells_in_either(&self.owned, &self.copied, variable)
     }
+
+    // Gives an element of a variable a value, wherever the variable stands.
+    #[inline(never)]
+    fn set_elsewhere(&mut self, variable: u32, at: usize, v: &Value)
+        ensures set { let before = all_cells self.old.count self.old.owned.items self.old.copied.items in
+            all_cells self.new.count self.new.owned.items self.new.copied.items
+            ≡ slice_set before variable (slice_set (cells_of before variable) at v.now) }
+        ensures slots { self.new.slots ≡ self.old.slots }
+        ensures ports { self.new.ports ≡ self.old.ports }
+        ensures fifos { self.new.fifos ≡ self.old.fifos }
+        ensures numbers { numbers_of self.new.owned.items ≡ numbers_of self.old.owned.items }
+        ensures count { self.new.count ≡ self.old.count }
+    {
+        if set_by_search(&mut self.owned, variable, at, v) {
+            return;
+        }
+        if (variable as usize) < self.count {
+            set_by_search(&mut self.copied, variable, at, v);
+        }
+    }
 }
 
-// The number of the first variable that is carried.
+// The number of the first variable that is carried, and 0 where none is.
 pub(crate) fn first_of(carried: &[(u32, Cells)]) -> u32 {
     if carried.is_empty() { 0 } else { carried[0].0 }
 }
@@ -164,29 +190,27 @@ fn cells_in(carried: &[(u32, Cells)], variable: u32) -> Option<&[Value]>
     }
 }
 
-// Gives an element of a variable a value, where it has that element. It answers whether the variable is carried. With
-// no number left out, it stands as far on as its number is above the first one. The value is lent: by itself it would be
-// written to the stack for a search that is seldom made.
-#[inline(always)]
-fn set_in(carried: &mut Vec<(u32, Cells)>, first: u32, variable: u32, at: usize, v: &Value) -> bool
-    requires { IsAscending carried.old.items }
-    ensures found { result ≡ is_some (listed carried.old.items variable) }
-    ensures ascending { IsAscending carried.new.items }
-    ensures below { (n : ℕ) →
-        All (λ c. c.0 < n) carried.old.items → All (λ c. c.0 < n) carried.new.items }
-    ensures listed { carried.new.items
-        ≡ with_listed variable (λ cells. slice_set cells at v.now) carried.old.items }
+// How many of the variables that are carried, from the first one on, have numbers one after another, from this one on.
+pub(crate) fn in_order(carried: &[(u32, Cells)], first: u32) -> usize
+    ensures { StandInOrder first result carried.now }
 {
-    let place = variable.wrapping_sub(first) as usize;
-    if place < carried.len() && carried[place].0 == variable {
-        set_item(&mut carried[place].1, at, *v);
-        return true;
+    for (at, entry) in carried.iter().enumerate() {
+        if !is_above_by(entry.0, first, at) {
+            return at;
+        }
     }
-    set_by_search(carried, variable, at, v)
+    carried.len()
 }
 
-// The same, wherever it stands.
-#[inline(never)]
+// Whether a number is above the first one by so many.
+fn is_above_by(number: u32, first: u32, by: usize) -> bool
+    ensures number { IsTrue result → number ≡ first + by }
+    ensures fits { IsTrue result → first + by < 4294967296 }
+{
+    number >= first && (number - first) as usize == by
+}
+
+// Gives an element of a variable a value, where it is carried and has that element. It answers whether it is carried.
 fn set_by_search(carried: &mut Vec<(u32, Cells)>, variable: u32, at: usize, v: &Value) -> bool
     requires { IsAscending carried.old.items }
     ensures found { result ≡ is_some (listed carried.old.items variable) }
@@ -198,11 +222,23 @@ fn set_by_search(carried: &mut Vec<(u32, Cells)>, variable: u32, at: usize, v: &
 {
     match place_of(carried, variable) {
         Some(place) => {
-            set_item(&mut carried[place].1, at, *v);
+            set_at(carried, place, at, *v);
             true
         }
         None => false,
     }
+}
+
+// Gives an element of the variable at a place a value, where it has that element.
+#[inline(always)]
+fn set_at(carried: &mut Vec<(u32, Cells)>, place: usize, at: usize, v: Value)
+    requires ascending { IsAscending carried.old.items }
+    requires within { place < length carried.old.items }
+    ensures ascending { IsAscending carried.new.items }
+    ensures listed { (x : ℕ) → IsSomeAnd (slice_get carried.old.items place) (λ c. c.0 ≡ x) →
+        carried.new.items ≡ with_listed x (λ cells. slice_set cells at v) carried.old.items }
+{
+    set_item(&mut carried[place].1, at, v);
 }
 
 // Gives an element a value, where there is that element.

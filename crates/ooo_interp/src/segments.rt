@@ -9,7 +9,7 @@ ghost use Rattle.ooo_interp.specs.Ports.{ValuesOf, all_shown, channel_of, shown,
 use crate::doing::{Emitted, Halt, Pause};
 use crate::fifo_port::FifoPort;
 use crate::job::{Done, Job};
-use crate::job_parts::{JobParts, first_of};
+use crate::job_parts::{JobParts, first_of, in_order};
 use crate::port::Port;
 use crate::ports::Ports;
 use crate::processes::{Start, run_process};
@@ -85,14 +85,17 @@ fn parts_of(
 {
     let ports = ports_of(alloc, seen.as_slice())?;
     let fifos = SeenFifos::new(seen);
+    let first = first_of(owned.as_slice());
+    let in_order = in_order(owned.as_slice(), first);
     Ok(JobParts {
-        first: first_of(owned.as_slice()),
         slots,
         owned,
         copied,
         ports,
         fifos,
         count,
+        first,
+        in_order,
     })
 }
 
