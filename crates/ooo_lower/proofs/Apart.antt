@@ -1,16 +1,20 @@
 -- The parts of statements are put next, part by part.
-use Rattle.std.proofs.Common.{◌≡◌, ◌∙◌, refl, ap, sym, subst, cond, ℕ, zero, suc, ◌+◌, ◌≤◌, ◌<◌, ◌-◌, List, [], ◌∷◌, drop, get_or, length, Some, None, arith, append-nil}
+use Rattle.std.proofs.Common.{◌≡◌, ◌∙◌, refl, ap, sym, subst, cond, ℕ, zero, suc, ◌+◌, ◌≤◌, ◌<◌, ◌-◌, List, [], ◌∷◌, drop, get_or, length, Some, None, arith, add-one, append-nil}
 use Rattle.std.proofs.Math.ListN.{drop_of_length-le}
+use Rattle.std.proofs.Math.Seq.{drop-cons}
 use Rattle.std.proofs.Math.Dec.{eqb-suc-zero}
 use Rattle.ooo_bound.specs.declared.expr.BoundExpr.{BoundExpr}
 use Rattle.ooo_bound.specs.declared.stat.BoundStat.{BoundStat}
 use Rattle.ooo_bound.specs.declared.stat.LinedSimple.{LinedSimple}
 use Rattle.ooo_lower.specs.Tasks.{Rest, Splits, before, pass_shape, test_shape, turn_shape}
-use Rattle.ooo_lower.proofs.Measured.{from_part}
 use Rattle.ooo_lower.proofs.Left.{splits_behind, splits_do, splits_first, splits_if, splits_loop, splits_on, splits_plain_loop, splits_then, splits_turn}
 use Rattle.ooo_shapes.specs.declared.around.Around.{Around}
 use Rattle.ooo_shapes.specs.Simples.{Home, begins}
 use Rattle.ooo_shapes.specs.Shapes.{Callees, Shape, body_shape, do_shape, empty, if_shape, inside, lined_shape, lined_shapes, loop_shape, shape_of, then}
+
+-- what stands from a place on begins with what stands there
+from_part : {A : Type 0} (xs : List A) (i : ℕ) (x : A) → i < length xs → x ≡ get_or xs i x → drop i xs ≡ x ∷ drop (i + 1) xs
+from_part xs i x lt e = rw add-one (drop-cons xs i x lt ∙ ap (λ y. y ∷ drop (suc i) xs) (sym e))
 
 begins_as : (size size2 at at2 next : ℕ) → size ≡ size2 → at ≡ at2 → begins size at next ≡ begins size2 at2 next
 begins_as size size2 at at2 next e f = ap (λ n. begins n at next) e ∙ ap (λ n. begins size2 n next) f

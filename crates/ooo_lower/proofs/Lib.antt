@@ -1,14 +1,9 @@
-mod Joined
-mod Opened
 mod Firsts
 mod Puts
 mod Shaped
-mod Measured
 mod Given
 mod Emitted
 mod Stated
-mod Sized
-mod Owing
 mod Left
 mod Apart
 mod Called

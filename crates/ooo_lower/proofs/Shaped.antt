@@ -8,7 +8,7 @@ use Rattle.ooo_bound.specs.declared.stat.LinedSimple.{LinedSimple}
 use Rattle.ooo_code.specs.declared.node.NodeKind.TheVariants as kind
 use Rattle.ooo_shapes.specs.Simples.{Home}
 use Rattle.ooo_shapes.specs.Shapes.{Shape, Callees, after_shape, all_shapes, body_shape, do_shape, if_shape, jump_shape, lined_shape, lined_shapes, loop_shape, return_kind, shape_of, shape_step, test_or_true, then}
-use Rattle.ooo_lower.specs.Extents.{else_shape}
+use Rattle.ooo_layout.specs.Extents.{else_shape}
 
 shape_at : (h : Home) (cs : Callees) (y : BoundStat-F BoundStat) → shape_of h cs (roll-BoundStat y) ≡ shape_step h cs (map-BoundStat BoundStat Shape (shape_of h cs) y)
 unfolding shape_of

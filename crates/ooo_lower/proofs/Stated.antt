@@ -5,10 +5,10 @@ use Rattle.ooo_bound.specs.declared.expr.BoundExpr.{BoundExpr}
 use Rattle.ooo_bound.specs.declared.stat.BoundStat.{BoundStat}
 use Rattle.ooo_bound.specs.declared.stat.BoundStat.TheVariants as tree
 use Rattle.ooo_bound.specs.declared.stat.LinedSimple.{LinedSimple}
+use Rattle.ooo_layout.specs.Extents.{else_shape}
 use Rattle.ooo_lower.specs.declared.code.Code.{Code}
 use Rattle.ooo_lower.specs.declared.tasks.Task.{Task}
 use Rattle.ooo_lower.specs.Codes.{Emits}
-use Rattle.ooo_lower.specs.Extents.{else_shape}
 use Rattle.ooo_lower.specs.Tasks.{Goes, Rest, before, left_of, nothing_left, one_node, task_before}
 use Rattle.ooo_lower.proofs.Shaped.{shape_Block, shape_Do, shape_For, shape_If, shape_Simple, shape_While}
 use Rattle.ooo_lower.proofs.Left.{goes_on, goes_put, goes_same, goes_to_end, last_left}

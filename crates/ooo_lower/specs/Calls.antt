@@ -2,10 +2,10 @@
 use Rattle.std.specs.Prelude.{◌≡◌, ◌+◌, List, length, min}
 use Rattle.ooo_bound.specs.declared.expr.BoundExpr.{BoundExpr}
 use Rattle.ooo_bound.specs.declared.model.BoundFunction.{BoundFunction}
+use Rattle.ooo_layout.specs.Scenes.{home_at}
 use Rattle.ooo_lower.specs.declared.code.Code.{Code}
 use Rattle.ooo_lower.specs.declared.simples.Site.{Site}
 use Rattle.ooo_lower.specs.declared.statements.CallPlaces.{CallPlaces}
-use Rattle.ooo_lower.specs.Scenes.{home_at}
 use Rattle.ooo_shapes.specs.Shapes.{call_kinds, shape_within}
 
 -- behind the code there is: the first free slot, the node behind the first one, and the one behind the body

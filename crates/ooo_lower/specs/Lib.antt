@@ -1,11 +1,6 @@
-pub mod Widths
-pub mod Scenes
 pub mod Codes
-pub mod Extents
-pub mod Blocks
 pub mod Changes
 pub mod Parts
 pub mod Lowered
-pub mod Weighing
 pub mod Tasks
 pub mod Calls

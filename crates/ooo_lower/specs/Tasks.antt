@@ -21,8 +21,8 @@ use Rattle.ooo_lower.specs.declared.tasks.Test.TheVariants as test
 use Rattle.ooo_shapes.specs.declared.around.Around.{Around}
 use Rattle.ooo_shapes.specs.Expressions.{lowered}
 use Rattle.ooo_shapes.specs.Simples.{Home, counted, uncounted}
+use Rattle.ooo_layout.specs.Scenes.{home_at}
 use Rattle.ooo_lower.specs.Codes.{Emits}
-use Rattle.ooo_lower.specs.Scenes.{home_at}
 use Rattle.ooo_shapes.specs.Shapes.{Callees, Shape, after_shape, body_shape, callees_within, entry, inside, leave_kind, lined_shape, lined_shapes, loop_shape, plain, shape_of, test_or_true}
 
 -- ---- calls

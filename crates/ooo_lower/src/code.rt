@@ -2,8 +2,8 @@ ghost use Rattle.std.specs.Prelude.{◌≡◌, ◌+◌, ◌++◌, [], ◌∷◌,
 ghost use Rattle.ooo_shapes.specs.Simples.{counted, uncounted};
 ghost use Rattle.ooo_lower.specs.Codes.{Puts};
 
-use crate::numbers::{behind, narrow};
 use ooo_code::{Node, NodeKind};
+use ooo_layout::numbers::{behind, narrow};
 use ooo_value::Kind;
 use sqlite_items::Items;
 use std::alloc::AllocError;

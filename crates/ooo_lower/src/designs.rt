@@ -7,24 +7,23 @@ ghost use Rattle.ooo_lower.specs.declared.designs.LowerError.TheVariants as lowe
 ghost use Rattle.ooo_lower.specs.declared.designs.TheConstants.{GREATEST_SIZE};
 ghost use Rattle.ooo_meaning.specs.Runs as by_nodes;
 ghost use Rattle.ooo_shapes.specs.Sizes.{code_size};
+ghost use Rattle.ooo_layout.specs.Extents.{IsKnown};
 ghost use Rattle.ooo_lower.specs.Codes.{PutsKinds};
-ghost use Rattle.ooo_lower.specs.Extents.{IsKnown};
 ghost use Rattle.ooo_lower.specs.Lowered.{HasProcess};
 ghost use Rattle.ooo_shapes.specs.Designs.{around_process, design_of};
 ghost use Rattle.ooo_shapes.specs.Expressions.{first_kinds};
 
 use crate::calls::push_locals;
 use crate::code::Code;
-use crate::extents::{body_size, outlines_of};
-use crate::numbers::past;
-use crate::order::callees_first;
-use crate::scene::{Known, Scene};
 use crate::simples::{Site, Spot};
-use crate::sizes::{is_within, weights_of};
 use crate::statements::emit_stats;
-use crate::widths::of_body;
 use ooo_bound::{Bound, BoundProcess};
 use ooo_code::{Design, NodeKind, Proc};
+use ooo_layout::extents::{body_size, find_outlines};
+use ooo_layout::numbers::past;
+use ooo_layout::scene::{Known, Scene};
+use ooo_layout::sizes::{is_within, weights_of};
+use ooo_layout::widths::of_body;
 use ooo_shapes::law::{same_runs, sound_design};
 use ooo_shapes::{Around, Widths};
 use ooo_value::Kind;
@@ -187,8 +186,7 @@ pub fn lower(alloc: Global, model: &Bound) -> Result<Design, LowerError>
     if !is_within(alloc, model, weights.as_slice(), GREATEST_SIZE)? {
         return Err(LowerError::CodeTooLarge);
     }
-    let order = callees_first(alloc, weights.as_slice())?;
-    let outlines = outlines_of(alloc, model, order.as_slice())?;
+    let outlines = find_outlines(alloc, model, weights.as_slice())?;
     let known = Known {
         model,
         outlines: outlines.as_slice(),

@@ -2,10 +2,10 @@ ghost use Rattle.std.specs.Prelude.{◌≡◌, IfOk};
 ghost use Rattle.ooo_code.specs.declared.expression.NodeExpr.TheVariants as node;
 ghost use Rattle.ooo_shapes.specs.Expressions.{converted, kept, lowered, lowered_time, lowered_wait_time, slot_of};
 
-use crate::numbers::{narrow, sum};
-use crate::widths::start_of;
 use ooo_bound::{BoundExpr, BoundTime};
 use ooo_code::{NodeExpr, NodeTime};
+use ooo_layout::numbers::{narrow, sum};
+use ooo_layout::widths::start_of;
 use ooo_shapes::Around;
 use ooo_value::{Kind, Op, Value, convert};
 use sqlite_items::Boxed;

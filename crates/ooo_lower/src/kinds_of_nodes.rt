@@ -3,8 +3,8 @@ ghost use Rattle.std.specs.List.{position_from};
 ghost use Rattle.ooo_activation.specs.Activations.{channel_kind, one_event};
 ghost use Rattle.ooo_activation.specs.Activations.{variable_kind as kind_of_variable};
 ghost use Rattle.ooo_code.specs.declared.node.NodeKind.TheVariants as node;
+ghost use Rattle.ooo_layout.specs.Scenes.{home_at};
 ghost use Rattle.ooo_lower.specs.Changes.{events_of, is_event};
-ghost use Rattle.ooo_lower.specs.Scenes.{home_at};
 ghost use Rattle.ooo_shapes.specs.Expressions.{converted, index_slot, kind_number, lowered, slot_of};
 ghost use Rattle.ooo_shapes.specs.Expressions.{value_slot};
 ghost use Rattle.ooo_shapes.specs.Shapes.{leave_kind, result_expr, return_kind};
@@ -12,11 +12,11 @@ ghost use Rattle.ooo_shapes.specs.Simples.{aim_kind, channel_slot, current_expr,
 ghost use Rattle.ooo_shapes.specs.Simples.{put_at_kind, put_kind, wait_kind};
 
 use crate::expressions::{converted, lowered, lowered_wait_time, slot_of};
-use crate::kinds::{kind_in, kind_of_channel, kind_of_variable};
-use crate::numbers::narrow;
-use crate::scene::Scene;
 use ooo_bound::{BoundExpr, BoundItem, BoundTarget, BoundWait};
 use ooo_code::{NodeExpr, NodeKind, NodeWait};
+use ooo_layout::kinds::{kind_in, kind_of_channel, kind_of_variable};
+use ooo_layout::numbers::narrow;
+use ooo_layout::scene::Scene;
 use ooo_shapes::Around;
 use ooo_value::{BoundEvent, Kind, Value};
 use sqlite_items::{Boxed, Items};

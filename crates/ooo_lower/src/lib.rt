@@ -14,23 +14,15 @@ macro_rules! keeping {
     };
 }
 
-mod blocks;
 mod calls;
 mod code;
 mod designs;
 mod expressions;
-mod extents;
 mod keeping;
-mod kinds;
 mod kinds_of_nodes;
-mod numbers;
-mod order;
-mod scene;
 mod simples;
-mod sizes;
 mod splitting;
 mod statements;
 mod tasks;
-mod widths;
 
 pub use designs::{GREATEST_SIZE, LowerError, lower};

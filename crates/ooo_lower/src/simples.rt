@@ -1,8 +1,8 @@
 ghost use Rattle.std.specs.Prelude.{◌≡◌, [], ◌∷◌, length, IfOk, OnOk};
+ghost use Rattle.ooo_layout.specs.Scenes.{home_at};
 ghost use Rattle.ooo_lower.specs.Changes.{events_of};
 ghost use Rattle.ooo_lower.specs.Codes.{Puts};
 ghost use Rattle.ooo_lower.specs.Parts.{element_update_nodes, fifo_value, updated_element, updated_expr};
-ghost use Rattle.ooo_lower.specs.Scenes.{home_at};
 ghost use Rattle.ooo_shapes.specs.Expressions.{lowered};
 ghost use Rattle.ooo_shapes.specs.Simples.{aim_kind, begins, counted, item_nodes, nb_read_nodes, nb_write_nodes};
 ghost use Rattle.ooo_shapes.specs.Simples.{put_at_kind, put_kind, read_nodes, truth, uncounted, update_nodes};
@@ -10,15 +10,15 @@ ghost use Rattle.ooo_shapes.specs.Simples.{wait_kind, write_nodes};
 
 use crate::code::Code;
 use crate::expressions::{converted, lowered};
-use crate::kinds::{kind_in, kind_of_channel};
 use crate::kinds_of_nodes::{
     Change, aim_kind, channel_slot, current_expr, index_slot, item_kind, put_at_kind, put_kind,
     store_kind, value_slot, wait_for,
 };
-use crate::numbers::behind;
-use crate::scene::Scene;
 use ooo_bound::{BoundExpr, BoundItem, BoundTarget};
 use ooo_code::{NodeExpr, NodeKind};
+use ooo_layout::kinds::{kind_in, kind_of_channel};
+use ooo_layout::numbers::behind;
+use ooo_layout::scene::Scene;
 use ooo_shapes::Around;
 use ooo_value::{Op, Value};
 use sqlite_items::Boxed;

@@ -1,16 +1,16 @@
 ghost use Rattle.std.specs.Prelude.{◌≡◌, ◌+◌, ℕ, IfOk, None, OnOk, Some};
-ghost use Rattle.ooo_lower.specs.Extents.{IsKnown, else_shape};
+ghost use Rattle.ooo_layout.specs.Extents.{IsKnown, else_shape};
 ghost use Rattle.ooo_lower.specs.Tasks.{Divides, Splits, at_spot, left_of, looped_shape, part_shape, tested};
 ghost use Rattle.ooo_lower.specs.Tasks.{turn_shape};
 ghost use Rattle.ooo_shapes.specs.Shapes.{body_shape, callees_within, do_shape, if_shape, inside, lined_shape};
 ghost use Rattle.ooo_shapes.specs.Shapes.{lined_shapes, loop_shape, shape_of, test_or_true, then};
 ghost use Rattle.ooo_shapes.specs.Simples.{Home};
 
-use crate::extents::{body_size, else_size, lined_size, lineds_size, stat_size};
-use crate::numbers::{behind, less, past, sum};
 use crate::simples::{Site, Spot, begins};
 use crate::tasks::{Loop, Part, Task, Test};
 use ooo_bound::{BoundExpr, BoundStat, LinedSimple};
+use ooo_layout::extents::{body_size, else_size, lined_size, lineds_size, stat_size};
+use ooo_layout::numbers::{behind, less, past, sum};
 use ooo_shapes::Around;
 use sqlite_items::{Boxed, Items};
 use std::alloc::AllocError;

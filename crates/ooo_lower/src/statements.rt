@@ -2,10 +2,10 @@ ghost use Rattle.std.specs.Prelude.{◌≡◌, ◌+◌, [], ◌∷◌, None, Som
 ghost use Rattle.ooo_code.specs.declared.node.NodeKind.TheVariants as kind;
 ghost use Rattle.ooo_bound.specs.declared.stat.BoundRight.TheVariants as bound_right;
 ghost use Rattle.ooo_bound.specs.declared.stat.BoundSimple.TheVariants as bound_simple;
+ghost use Rattle.ooo_layout.specs.Extents.{IsKnown, IsOutlineOf, else_shape};
+ghost use Rattle.ooo_layout.specs.Scenes.{home_at};
 ghost use Rattle.ooo_lower.specs.Codes.{Emits, Puts};
-ghost use Rattle.ooo_lower.specs.Extents.{IsKnown, IsOutlineOf, else_shape};
 ghost use Rattle.ooo_lower.specs.Parts.{one_kind};
-ghost use Rattle.ooo_lower.specs.Scenes.{home_at};
 ghost use Rattle.ooo_lower.specs.Calls.{IsPlaced};
 ghost use Rattle.ooo_lower.specs.Tasks.{EmitsAt, Takes, gives_call, is_call, leave_shape, one_node};
 ghost use Rattle.ooo_lower.specs.Tasks.{looped_shape, part_shape, pass_shape, test_shape, tested};
@@ -15,13 +15,10 @@ ghost use Rattle.ooo_shapes.specs.Shapes.{lined_shape, lined_shapes, loop_shape,
 ghost use Rattle.ooo_shapes.specs.Shapes.{shape_of, shape_within, simple_shape, then};
 ghost use Rattle.ooo_shapes.specs.Simples.{counted};
 
-use crate::blocks::bare;
 use crate::calls::{frame_of, leave_kind, push_kinds, put_arguments, put_zeros};
 use crate::code::Code;
 use crate::expressions::{lowered, lowered_time};
-use crate::extents::{Outline, callee, given, known_outline, nodes_within};
 use crate::kinds_of_nodes::{lowered_wait, return_kind};
-use crate::numbers::{less, past, sum};
 use crate::simples::{Site, Spot, begins};
 use crate::splitting::{push, test_of};
 use crate::tasks::{Loop, Part, Task, Test};
@@ -30,6 +27,9 @@ use ooo_bound::{
     LinedSimple,
 };
 use ooo_code::{NodeExpr, NodeKind};
+use ooo_layout::blocks::bare;
+use ooo_layout::extents::{Outline, callee, given, known_outline, nodes_within};
+use ooo_layout::numbers::{less, past, sum};
 use ooo_shapes::Around;
 use ooo_value::{Kind, Value};
 use sqlite_items::{Boxed, Items};

@@ -1,7 +1,7 @@
 use Rattle.std.proofs.Common.{◌≡◌, Option, Some, ◌∙◌, ap, sym}
 use Rattle.std.proofs.lemmas.Result.{on_ok_weaker}
 use Rattle.ooo_bound.specs.declared.stat.BoundStat.{BoundStat}
-use Rattle.ooo_lower.specs.Extents.{else_shape}
+use Rattle.ooo_layout.specs.Extents.{else_shape}
 use Rattle.ooo_lower.specs.Tasks.{Rest, before, left_of}
 use Rattle.ooo_lower.proofs.Apart.{nothing_before}
 use Rattle.ooo_lower.proofs.Left.{splits_same}

@@ -1,4 +1,4 @@
-use Rattle.ooo_lower.specs.Scenes.{home_at}
+use Rattle.ooo_layout.specs.Scenes.{home_at}
 use Rattle.ooo_lower.specs.Tasks.{before, nothing_left}
 use Rattle.ooo_lower.proofs.Stated.{tasks_done, tasks_first, tasks_more}
 use Rattle.ooo_shapes.specs.Shapes.{shape_within}

@@ -1,4 +1,4 @@
-use Rattle.ooo_lower.specs.Scenes.{home_at}
+use Rattle.ooo_layout.specs.Scenes.{home_at}
 use Rattle.ooo_lower.specs.Tasks.{Goes, before, left_of, nothing_left}
 use Rattle.ooo_shapes.specs.Shapes.{shape_within}
 use Rattle.ooo_lower.proofs.statements.emit_stats.Given as goal

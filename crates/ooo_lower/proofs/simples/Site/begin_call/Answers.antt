@@ -1,7 +1,7 @@
 use Rattle.std.proofs.Common.{◌∙◌, ap, subst, length}
 use Rattle.std.proofs.lemmas.Result.{on_ok_weaker}
+use Rattle.ooo_layout.specs.Scenes.{home_at}
 use Rattle.ooo_lower.specs.Codes.{Puts}
-use Rattle.ooo_lower.specs.Scenes.{home_at}
 use Rattle.ooo_lower.specs.Tasks.{before, left_of}
 use Rattle.ooo_lower.proofs.Called.{call_begun}
 use Rattle.ooo_shapes.specs.Shapes.{argument_nodes, shape_within}

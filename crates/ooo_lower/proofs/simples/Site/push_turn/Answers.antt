@@ -1,5 +1,5 @@
 use Rattle.std.proofs.lemmas.Result.{on_ok_weaker}
-use Rattle.ooo_lower.specs.Scenes.{home_at}
+use Rattle.ooo_layout.specs.Scenes.{home_at}
 use Rattle.ooo_lower.specs.Tasks.{left_of, tested}
 use Rattle.ooo_lower.proofs.Apart.{turn_split}
 use Rattle.ooo_shapes.specs.Shapes.{callees_within, shape_of}

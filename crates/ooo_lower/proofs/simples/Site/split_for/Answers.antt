@@ -1,6 +1,6 @@
 use Rattle.std.proofs.Common.{arith}
 use Rattle.std.proofs.lemmas.Result.{on_ok_weaker}
-use Rattle.ooo_lower.specs.Scenes.{home_at}
+use Rattle.ooo_layout.specs.Scenes.{home_at}
 use Rattle.ooo_lower.specs.Tasks.{left_of, looped_shape}
 use Rattle.ooo_lower.proofs.Apart.{for_split}
 use Rattle.ooo_shapes.specs.Shapes.{callees_within, lined_shapes}

@@ -1,7 +1,7 @@
 use Rattle.std.proofs.Common.{Option, Some, ◌∙◌, ap, subst, sym}
 use Rattle.std.proofs.lemmas.Result.{on_ok_weaker}
 use Rattle.ooo_bound.specs.declared.stat.LinedSimple.{LinedSimple}
-use Rattle.ooo_lower.specs.Scenes.{home_at}
+use Rattle.ooo_layout.specs.Scenes.{home_at}
 use Rattle.ooo_lower.specs.Tasks.{Rest, Splits, before, left_of, tested}
 use Rattle.ooo_shapes.specs.Shapes.{after_shape, callees_within, loop_shape, shape_of}
 use Rattle.ooo_lower.proofs.simples.Site.split_loop.Goals as goal

@@ -1,5 +1,5 @@
 use Rattle.std.proofs.Common.{◌≤◌, length}
-use Rattle.ooo_lower.specs.Scenes.{home_at}
+use Rattle.ooo_layout.specs.Scenes.{home_at}
 use Rattle.ooo_lower.specs.Tasks.{left_of}
 use Rattle.ooo_lower.proofs.Apart.{BodyLeft}
 use Rattle.ooo_shapes.specs.Shapes.{callees_within}

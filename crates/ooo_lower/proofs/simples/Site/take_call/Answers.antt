@@ -1,6 +1,6 @@
 use Rattle.std.proofs.Common.{ap, subst, sym}
 use Rattle.std.proofs.lemmas.Result.{on_ok_weaker}
-use Rattle.ooo_lower.specs.Scenes.{home_at}
+use Rattle.ooo_layout.specs.Scenes.{home_at}
 use Rattle.ooo_lower.specs.Tasks.{Goes, before, left_of}
 use Rattle.ooo_lower.proofs.Called.{no_call_begun}
 use Rattle.ooo_shapes.specs.Shapes.{call_shape}

@@ -1,6 +1,6 @@
 use Rattle.std.proofs.Common.{◌∙◌, ap}
 use Rattle.std.proofs.lemmas.Result.{on_ok_weaker}
-use Rattle.ooo_lower.specs.Scenes.{home_at}
+use Rattle.ooo_layout.specs.Scenes.{home_at}
 use Rattle.ooo_lower.specs.Tasks.{left_of}
 use Rattle.ooo_lower.proofs.Shaped.{shape_Break, shape_Continue, shape_Return}
 use Rattle.ooo_lower.proofs.Stated.{block_is, do_is, for_is, goes_as, if_is, jump_taken, simple_is, while_is}

@@ -1,5 +1,5 @@
 use Rattle.std.proofs.lemmas.Result.{on_ok_weaker}
-use Rattle.ooo_lower.specs.Scenes.{home_at}
+use Rattle.ooo_layout.specs.Scenes.{home_at}
 use Rattle.ooo_lower.specs.Tasks.{left_of}
 use Rattle.ooo_lower.proofs.Left.{goes_split}
 use Rattle.ooo_lower.proofs.simples.Site.take_while.Goals as goal

@@ -1,0 +1,6 @@
+mod Joined
+mod Opened
+mod Shaped
+mod Measured
+mod Sized
+mod Owing

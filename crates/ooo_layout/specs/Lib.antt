@@ -1,0 +1,5 @@
+pub mod Widths
+pub mod Scenes
+pub mod Extents
+pub mod Blocks
+pub mod Weighing

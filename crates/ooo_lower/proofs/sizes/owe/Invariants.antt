@@ -1,6 +1,0 @@
-use Rattle.std.proofs.Common.{◌≡◌, ◌++◌, drop}
-use Rattle.ooo_lower.specs.Weighing.{owed_calls}
-use Rattle.ooo_lower.proofs.sizes.owe.Given as goal
-
-abbrev pub invariant-calls : goal.invariant-calls
-invariant-calls l = l.owed ++ owed_calls l.depth (drop l.f-index l.calls) ≡ l.initial.owed ++ owed_calls l.depth l.calls

@@ -1,5 +1,0 @@
-use Rattle.ooo_lower.proofs.Sized.{all_weighed}
-use Rattle.ooo_lower.proofs.sizes.weights_of.Goals as goal
-
-pub returns : goal.returns
-returns c = all_weighed c.functions.all c.functions.function-index c.args.functions.now c.functions-test.false c.functions.invariant
