@@ -4,7 +4,7 @@ use crate::lexer_hints::lexer_hint;
 use crate::message::Message;
 use crate::refusal::{Breach, TextRefusal};
 use crate::shape::hint_of;
-use crate::shapes::{ANYWHERE, elaborate_shapes, expected_shapes, parser_shapes, type_shapes};
+use crate::shapes::{elaborate_shapes, expected_shapes, hint_anywhere, parser_hint, type_hint};
 use crate::site::Site;
 use crate::spelling::{is_near, known_near};
 use ooo_checked::TypeBreach;
@@ -28,7 +28,7 @@ pub fn add_hints(
             if breach == TypeBreach::UnknownName {
                 add_meant(alloc, message, site)?;
             }
-            add_some(message, hint_of(type_shapes(breach), site))
+            add_some(message, type_hint(breach, site))
         }
         Breach::Elaborate(breach) => {
             if breach == ElabBreach::PortKind {
@@ -54,7 +54,7 @@ fn add_parser_hints(
     breach: ParseBreach,
     site: &Site<'_>,
 ) -> Result<(), AllocError> {
-    if let Some(hint) = hint_of(ANYWHERE, site) {
+    if let Some(hint) = hint_anywhere(site) {
         return message.hint(hint);
     }
     if breach == ParseBreach::TooDeep {
@@ -84,7 +84,7 @@ fn add_spelling(
 // The way around where a token meets a shape of its place; else the end that is missing, or what may stand there.
 fn add_expected(message: &mut Message<'_>, site: &Site<'_>) -> Result<(), AllocError> {
     let place = site.place();
-    if let Some(hint) = hint_of(parser_shapes(place), site) {
+    if let Some(hint) = parser_hint(place, site) {
         return message.hint(hint);
     }
     if let Some(end) = missing_end(site) {

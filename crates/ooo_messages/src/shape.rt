@@ -47,7 +47,12 @@ impl Shape {
     }
 }
 
-/// The hint of the first shape that fits.
+/// The hint of the first shape that fits, of tables one after the other.
+pub fn first_hint(tables: &[&[Shape]], site: &Site<'_>) -> Option<&'static str> {
+    tables.iter().find_map(|shapes| hint_of(shapes, site))
+}
+
+/// The hint of the first shape of a table that fits.
 pub fn hint_of(shapes: &[Shape], site: &Site<'_>) -> Option<&'static str> {
     shapes
         .iter()

@@ -1,5 +1,7 @@
-//! What texts do that are refused, as shapes of tokens, each with what to write instead. Of the shapes of a table the
-//! first one that fits counts.
+//! What texts do that are refused, as shapes of tokens, each with what to write instead. Of the shapes of a table, and of
+//! tables one after the other, the first one that fits counts.
+//!
+//! A table has at most some 25 shapes, since the time of a proof that reads it goes by the square of their number.
 
 mod elaboration;
 mod expected;
@@ -10,20 +12,20 @@ mod outside;
 mod types;
 mod unknown;
 
-use crate::shape::Shape;
-use crate::site::Place;
-pub use grammar::ANYWHERE;
+use crate::shape::{Shape, hint_of};
+use crate::site::{Place, Site};
+pub use grammar::hint_anywhere;
 use ooo_checked::TypeBreach;
 use ooo_walk::ElabBreach;
 
-/// The shapes that the grammar refuses at a place, besides those of [`ANYWHERE`].
-pub fn parser_shapes(place: Place) -> &'static [Shape] {
+/// What to write in place of what the grammar refuses at a place, besides what [`hint_anywhere`] says.
+pub fn parser_hint(place: Place, site: &Site<'_>) -> Option<&'static str> {
     match place {
-        Place::File => outside::IN_FILE,
-        Place::Members => inside::IN_MEMBERS,
-        Place::Constructor => inside::IN_CONSTRUCTOR,
-        Place::Body => inside::IN_BODY,
-        Place::Main => outside::IN_MAIN,
+        Place::File => hint_of(outside::IN_FILE, site),
+        Place::Members => inside::hint_in_members(site),
+        Place::Constructor => hint_of(inside::IN_CONSTRUCTOR, site),
+        Place::Body => inside::hint_in_body(site),
+        Place::Main => outside::hint_in_main(site),
     }
 }
 
@@ -38,19 +40,19 @@ pub fn expected_shapes(place: Place) -> &'static [Shape] {
     }
 }
 
-/// The shapes that are refused by a breach of names and types.
-pub fn type_shapes(breach: TypeBreach) -> &'static [Shape] {
+/// What to write in place of what is refused by a breach of names and types.
+pub fn type_hint(breach: TypeBreach, site: &Site<'_>) -> Option<&'static str> {
     match breach {
-        TypeBreach::UnknownName => unknown::UNKNOWN_NAME,
-        TypeBreach::DeclaredTwice => types::DECLARED_TWICE,
-        TypeBreach::WrongKind => kinds::WRONG_KIND,
-        TypeBreach::WaitInMethod => types::WAIT_IN_METHOD,
-        TypeBreach::WaitInFunction => types::WAIT_IN_FUNCTION,
-        TypeBreach::RecursiveCall => types::RECURSIVE_CALL,
-        TypeBreach::NotAPort => types::NOT_A_PORT,
-        TypeBreach::WrongCount => kinds::WRONG_COUNT,
-        TypeBreach::EffectInside => types::EFFECT_INSIDE,
-        TypeBreach::NotConstant => types::NOT_CONSTANT,
+        TypeBreach::UnknownName => unknown::hint_of_unknown(site),
+        TypeBreach::DeclaredTwice => hint_of(types::DECLARED_TWICE, site),
+        TypeBreach::WrongKind => kinds::hint_of_kind(site),
+        TypeBreach::WaitInMethod => hint_of(types::WAIT_IN_METHOD, site),
+        TypeBreach::WaitInFunction => hint_of(types::WAIT_IN_FUNCTION, site),
+        TypeBreach::RecursiveCall => hint_of(types::RECURSIVE_CALL, site),
+        TypeBreach::NotAPort => hint_of(types::NOT_A_PORT, site),
+        TypeBreach::WrongCount => hint_of(kinds::WRONG_COUNT, site),
+        TypeBreach::EffectInside => hint_of(types::EFFECT_INSIDE, site),
+        TypeBreach::NotConstant => hint_of(types::NOT_CONSTANT, site),
     }
 }
 

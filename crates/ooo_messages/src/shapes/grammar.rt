@@ -1,7 +1,21 @@
-use crate::shape::Shape;
+use crate::shape::{Shape, first_hint};
+use crate::site::Site;
 
-/// Words and forms that the language hasn't, wherever they stand.
-pub static ANYWHERE: &[Shape] = &[
+/// What to write in place of a word or form that the language hasn't, wherever it stands.
+pub fn hint_anywhere(site: &Site<'_>) -> Option<&'static str> {
+    first_hint(
+        &[
+            STATEMENTS_AND_TYPES,
+            CLASSES_AND_OBJECTS,
+            CHANNELS_AND_WORDS,
+            LIBRARY_TYPES,
+        ],
+        site,
+    )
+}
+
+// `switch`, and types that the language hasn't.
+static STATEMENTS_AND_TYPES: &[Shape] = &[
     Shape {
         tokens: "^ switch",
         hint: "write 'if' and 'else if' in place of 'switch'",
@@ -82,6 +96,10 @@ pub static ANYWHERE: &[Shape] = &[
         tokens: "^ auto",
         hint: "write the type: there are five types: 'bool', 'int', 'unsigned', 'long long' and 'unsigned long long'",
     },
+];
+
+// Types of one's own, processes and objects of other kinds, and access to members.
+static CLASSES_AND_OBJECTS: &[Shape] = &[
     Shape {
         tokens: "^ struct <word> :",
         hint: "write 'SC_MODULE(Name) { .. };' with a constructor 'SC_CTOR(Name) { .. }'",
@@ -166,6 +184,10 @@ pub static ANYWHERE: &[Shape] = &[
         tokens: "^ this",
         hint: "write the member's name alone",
     },
+];
+
+// Channels of other kinds and SystemC's settings, and words of C++.
+static CHANNELS_AND_WORDS: &[Shape] = &[
     Shape {
         tokens: "^ sc_port",
         hint: "use a port of a channel: 'sc_in<int>', 'sc_out<int>', 'sc_fifo_in<int>' or 'sc_fifo_out<int>'",
@@ -242,6 +264,10 @@ pub static ANYWHERE: &[Shape] = &[
         tokens: "^ explicit",
         hint: "leave 'explicit' out",
     },
+];
+
+// Types of the libraries of C++ and C.
+static LIBRARY_TYPES: &[Shape] = &[
     Shape {
         tokens: "vector ^ <",
         hint: "use an array as a member of the module: 'int a[8];', or an sc_fifo between processes",

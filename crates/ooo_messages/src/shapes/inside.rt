@@ -1,7 +1,13 @@
-use crate::shape::Shape;
+use crate::shape::{Shape, first_hint};
+use crate::site::Site;
 
-/// What is written among the members of a module.
-pub static IN_MEMBERS: &[Shape] = &[
+/// What to write in place of what is written among the members of a module.
+pub fn hint_in_members(site: &Site<'_>) -> Option<&'static str> {
+    first_hint(&[MEMBER_TYPES, MEMBER_HEADS, MEMBER_PLACES], site)
+}
+
+// Arrays, parameters and types among the members of a module.
+static MEMBER_TYPES: &[Shape] = &[
     Shape {
         tokens: "> <word> ^ [",
         hint: "arrays hold variables alone: give each port, signal, fifo, event and module a name of its own",
@@ -74,6 +80,10 @@ pub static IN_MEMBERS: &[Shape] = &[
         tokens: "^ long <word>",
         hint: "write 'long long' or 'int'",
     },
+];
+
+// Functions, ports, channels and instances among the members of a module.
+static MEMBER_HEADS: &[Shape] = &[
     Shape {
         tokens: "( ) ^ ;",
         hint: "a function is written inside its module, with its body: 'SC_MODULE(M) { void f() { .. } .. };'",
@@ -126,6 +136,10 @@ pub static IN_MEMBERS: &[Shape] = &[
         tokens: "SC_CTOR ( <word> ) ^ ;",
         hint: "a function is written inside its module, with its body: 'SC_MODULE(M) { void f() { .. } .. };'",
     },
+];
+
+// What stands among the members of a module and belongs elsewhere, and constructors.
+static MEMBER_PLACES: &[Shape] = &[
     Shape {
         tokens: "^ SC_THREAD",
         hint: "processes are registered in a constructor: 'SC_CTOR(M) { SC_THREAD(run); }'",
@@ -280,8 +294,13 @@ pub static IN_CONSTRUCTOR: &[Shape] = &[
     },
 ];
 
-/// What is written in a function.
-pub static IN_BODY: &[Shape] = &[
+/// What to write in place of what is written in a function.
+pub fn hint_in_body(site: &Site<'_>) -> Option<&'static str> {
+    first_hint(&[WAITS, OPERATORS, LOCALS, PRINTS, BODY_PLACES], site)
+}
+
+// Times, waits and notifications in a function.
+static WAITS: &[Shape] = &[
     Shape {
         tokens: "wait ( <number> ^ )",
         hint: "a time has a unit: write 'wait(2, SC_NS);', or for several events of the sensitivity a loop: 'for (int i = 0; i < 2; i++) { wait(); }'",
@@ -338,6 +357,10 @@ pub static IN_BODY: &[Shape] = &[
         tokens: "notify ( ^ )",
         hint: "a notification has a time: 'e.notify(SC_ZERO_TIME);' comes in the next delta cycle, 'e.notify(1, SC_NS);' later",
     },
+];
+
+// Operators in a function.
+static OPERATORS: &[Shape] = &[
     Shape {
         tokens: "<word> ^ - >",
         hint: "there are no pointers: write 'p.f()' in place of 'p->f()'",
@@ -386,6 +409,10 @@ pub static IN_BODY: &[Shape] = &[
         tokens: "^ --",
         hint: "'++' and '--' are statements of their own: write 'i++;' before or behind this one",
     },
+];
+
+// Locals and arrays in a function.
+static LOCALS: &[Shape] = &[
     Shape {
         tokens: "<type> <word> ^ [",
         hint: "an array is a member of the module",
@@ -430,6 +457,10 @@ pub static IN_BODY: &[Shape] = &[
         tokens: "for ( <type> <word> ^ :",
         hint: "write a loop with an index: 'for (int i = 0; i < 8; i++) { .. a[i] .. }'",
     },
+];
+
+// Prints in a function.
+static PRINTS: &[Shape] = &[
     Shape {
         tokens: "cerr ^ <<",
         hint: "write 'cout' in place of 'cerr'",
@@ -466,6 +497,10 @@ pub static IN_BODY: &[Shape] = &[
         tokens: "^ sc_time_stamp",
         hint: "the time stands in prints alone: 'cout << sc_time_stamp();'",
     },
+];
+
+// What stands in a function and belongs elsewhere, and lists.
+static BODY_PLACES: &[Shape] = &[
     Shape {
         tokens: "^ sc_start",
         hint: "'sc_start' stands in sc_main",

@@ -1,7 +1,13 @@
-use crate::shape::Shape;
+use crate::shape::{Shape, first_hint};
+use crate::site::Site;
 
-/// What can't stand where it does.
-pub static WRONG_KIND: &[Shape] = &[
+/// What to write in place of what can't stand where it does.
+pub fn hint_of_kind(site: &Site<'_>) -> Option<&'static str> {
+    first_hint(&[ASSIGNED, AWAITED, PROCESSES, USED], site)
+}
+
+// What is assigned to.
+static ASSIGNED: &[Shape] = &[
     Shape {
         tokens: "nb_read ( ^ <any>",
         hint: "'nb_read' sets a variable: give it a local, a parameter or a member that may change",
@@ -74,6 +80,10 @@ pub static WRONG_KIND: &[Shape] = &[
         tokens: "^ <variable> --",
         hint: "a bool is turned by 'b = !b;'; a constant isn't changed",
     },
+];
+
+// What is waited for.
+static AWAITED: &[Shape] = &[
     Shape {
         tokens: "wait ( ^ <signal>",
         hint: "a signal's event is 's.value_changed_event()'; its name alone is one in 'sensitive'",
@@ -126,6 +136,10 @@ pub static WRONG_KIND: &[Shape] = &[
         tokens: "sensitive << ^ <variable>",
         hint: "a process is sensitive to signals, ports and events; make the variable an sc_signal",
     },
+];
+
+// What belongs to a process, a function or a loop.
+static PROCESSES: &[Shape] = &[
     Shape {
         tokens: "^ sensitive",
         hint: "the process is registered first: 'SC_METHOD(f); sensitive << ..;'",
@@ -170,6 +184,10 @@ pub static WRONG_KIND: &[Shape] = &[
         tokens: "SC_METHOD ( ^ <word>",
         hint: "a process is a function 'void f() { .. }' without parameters",
     },
+];
+
+// What is called, indexed or read.
+static USED: &[Shape] = &[
     Shape {
         tokens: "^ <signal> (",
         hint: "a signal is no function: its value is its name alone, or 's.read()'",

@@ -1,4 +1,5 @@
-use crate::shape::Shape;
+use crate::shape::{Shape, first_hint};
+use crate::site::Site;
 
 /// What is written outside modules and `sc_main`.
 pub static IN_FILE: &[Shape] = &[
@@ -104,8 +105,13 @@ pub static IN_FILE: &[Shape] = &[
     },
 ];
 
-/// What is written in `sc_main`.
-pub static IN_MAIN: &[Shape] = &[
+/// What to write in place of what is written in `sc_main`.
+pub fn hint_in_main(site: &Site<'_>) -> Option<&'static str> {
+    first_hint(&[MAIN_STATEMENTS, MAIN_CALLS, MAIN_INSTANCES], site)
+}
+
+// The head of `sc_main`, and what a process does.
+static MAIN_STATEMENTS: &[Shape] = &[
     Shape {
         tokens: "sc_main ( ^ )",
         hint: "write 'int sc_main(int argc, char* argv[]) { .. }'",
@@ -170,6 +176,10 @@ pub static IN_MAIN: &[Shape] = &[
         tokens: "<word> . write ( ^ <any>",
         hint: "a signal gets its values from a process: write it at the start of a thread; others see it from the next delta cycle on",
     },
+];
+
+// Bindings, calls and clocks in `sc_main`.
+static MAIN_CALLS: &[Shape] = &[
     Shape {
         tokens: "<word> . <word> ( <word> ^ ,",
         hint: "a binding names one channel: 'c.x(s0);'",
@@ -222,6 +232,10 @@ pub static IN_MAIN: &[Shape] = &[
         tokens: "sc_clock <word> ( <text> , sc_time ( <number> , <word> ) ^ ,",
         hint: "a clock has a name and a period alone, and begins high: for another duty cycle let a thread write a signal",
     },
+];
+
+// Instances in `sc_main`, and what belongs elsewhere.
+static MAIN_INSTANCES: &[Shape] = &[
     Shape {
         tokens: "<word> <word> ^ ;",
         hint: "an instance has its name as a text: 'Child c(\"c\");'",

@@ -1,7 +1,13 @@
-use crate::shape::Shape;
+use crate::shape::{Shape, first_hint};
+use crate::site::Site;
 
-/// What isn't known.
-pub static UNKNOWN_NAME: &[Shape] = &[
+/// What to write in place of what isn't known.
+pub fn hint_of_unknown(site: &Site<'_>) -> Option<&'static str> {
+    first_hint(&[MEMBERS, CALLS, TYPES, OTHERS], site)
+}
+
+// What is named behind a dot.
+static MEMBERS: &[Shape] = &[
     Shape {
         tokens: "<in> . ^ write",
         hint: "an sc_in is only read: to write, make the port an sc_out or an sc_inout",
@@ -90,6 +96,10 @@ pub static UNKNOWN_NAME: &[Shape] = &[
         tokens: "<word> . ^ <any>",
         hint: "nothing of an instance is reached from outside but its ports, which are bound; exchange values by channels",
     },
+];
+
+// What is called in C++, or printed.
+static CALLS: &[Shape] = &[
     Shape {
         tokens: "^ printf",
         hint: "print by 'cout': 'cout << x << endl;'",
@@ -190,6 +200,10 @@ pub static UNKNOWN_NAME: &[Shape] = &[
         tokens: "^ nullptr",
         hint: "there are no pointers",
     },
+];
+
+// Types of the libraries of C++ and C.
+static TYPES: &[Shape] = &[
     Shape {
         tokens: "^ float <word>",
         hint: "there are no fractions: use whole numbers of a smaller unit",
@@ -246,6 +260,10 @@ pub static UNKNOWN_NAME: &[Shape] = &[
         tokens: "^ int64 <word>",
         hint: "there are five types: 'bool', 'int', 'unsigned', 'long long' and 'unsigned long long'",
     },
+];
+
+// Names of modules, members and locals.
+static OTHERS: &[Shape] = &[
     Shape {
         tokens: "SC_THREAD ( ^ <any>",
         hint: "a process is a function 'void f() { .. }' of this module",
