@@ -1,15 +1,120 @@
-use Rattle.std.proofs.Common.{List}
+use Rattle.std.proofs.Common.{List, rules}
 use Rattle.ooo_syntax.specs.declared.expr.Expr.{Expr}
 use Rattle.ooo_checked.specs.Exprs.{expr_of}
 use Rattle.ooo_bodies.specs.Parts.{trees_step, notes_step}
-use Rattle.ooo_bodies.proofs.Formed.{expr_of-Call, noted-Binary, noted-Choose}
+use Rattle.ooo_bodies.proofs.Formed.{expr_of-Binary, expr_of-Call, expr_of-Cast, expr_of-Choose, expr_of-Conversion, expr_of-Index, expr_of-Member}
+use Rattle.ooo_bodies.proofs.Formed.{expr_of-Name, expr_of-Number, expr_of-Paren, expr_of-Prefix, expr_of-Truth, noted-Binary, noted-Choose}
 use Rattle.ooo_bodies.proofs.exprs.+expr.Goals as goal
 
+pub expr-returns-in-Number-clause-tree : goal.expr-returns-in-Number-clause-tree
+expr-returns-in-Number-clause-tree t c =
+    rw (c.in-Number.is, expr_of-Number c.args.scopes.now c.in-Number.number)
+    (search rules)
+
+pub expr-returns-in-Number-clause-notes : goal.expr-returns-in-Number-clause-notes
+expr-returns-in-Number-clause-notes t c =
+    rw (c.in-Number.is, expr_of-Number c.args.scopes.now c.in-Number.number)
+    (search rules)
+
+pub expr-returns-in-Truth-clause-tree : goal.expr-returns-in-Truth-clause-tree
+expr-returns-in-Truth-clause-tree t c =
+    rw (c.in-Truth.is, expr_of-Truth c.args.scopes.now c.in-Truth.is_true c.in-Truth.at)
+    (search rules)
+
+pub expr-returns-in-Truth-clause-notes : goal.expr-returns-in-Truth-clause-notes
+expr-returns-in-Truth-clause-notes t c =
+    rw (c.in-Truth.is, expr_of-Truth c.args.scopes.now c.in-Truth.is_true c.in-Truth.at)
+    (search rules)
+
+pub expr-returns-in-Name-clause-tree : goal.expr-returns-in-Name-clause-tree
+expr-returns-in-Name-clause-tree t c =
+    rw (c.in-Name.is, expr_of-Name c.args.scopes.now c.in-Name.word)
+    (search rules)
+
+pub expr-returns-in-Name-clause-notes : goal.expr-returns-in-Name-clause-notes
+expr-returns-in-Name-clause-notes t c =
+    rw (c.in-Name.is, expr_of-Name c.args.scopes.now c.in-Name.word)
+    (search rules)
+
+pub expr-returns-in_ok-tree-in-Paren-clause-tree : goal.expr-returns-in_ok-tree-in-Paren-clause-tree
+expr-returns-in_ok-tree-in-Paren-clause-tree t c =
+    rw (c.in-Paren.is, expr_of-Paren c.args.scopes.now c.in-Paren.at c.in-Paren.inner)
+    (search rules)
+
+pub expr-returns-in_ok-tree-in-Paren-clause-notes : goal.expr-returns-in_ok-tree-in-Paren-clause-notes
+expr-returns-in_ok-tree-in-Paren-clause-notes t c =
+    rw (c.in-Paren.is, expr_of-Paren c.args.scopes.now c.in-Paren.at c.in-Paren.inner)
+    (search rules)
+
+pub expr-returns-in-Index-clause-tree : goal.expr-returns-in-Index-clause-tree
+expr-returns-in-Index-clause-tree t c =
+    rw (c.in-Index.is, expr_of-Index c.args.scopes.now c.in-Index.word c.in-Index.index)
+    (search rules)
+
+pub expr-returns-in-Index-clause-notes : goal.expr-returns-in-Index-clause-notes
+expr-returns-in-Index-clause-notes t c =
+    rw (c.in-Index.is, expr_of-Index c.args.scopes.now c.in-Index.word c.in-Index.index)
+    (search rules)
+
 pub expr-returns-in-Call-clause-tree : goal.expr-returns-in-Call-clause-tree
-expr-returns-in-Call-clause-tree t c = rw (c.in-Call.is, expr_of-Call c.in-Call.word c.in-Call.args c.args.scopes.now) c.call.ensures.tree
+expr-returns-in-Call-clause-tree t c =
+    rw (c.in-Call.is, expr_of-Call c.args.scopes.now c.in-Call.word c.in-Call.args)
+    c.call.ensures.tree
 
 pub expr-returns-in-Call-clause-notes : goal.expr-returns-in-Call-clause-notes
-expr-returns-in-Call-clause-notes t c = rw (c.in-Call.is, expr_of-Call c.in-Call.word c.in-Call.args c.args.scopes.now) c.call.ensures.notes
+expr-returns-in-Call-clause-notes t c =
+    rw (c.in-Call.is, expr_of-Call c.args.scopes.now c.in-Call.word c.in-Call.args)
+    c.call.ensures.notes
+
+pub expr-returns-in-Member-clause-tree : goal.expr-returns-in-Member-clause-tree
+expr-returns-in-Member-clause-tree t c =
+    rw (c.in-Member.is, expr_of-Member c.args.scopes.now c.in-Member.word c.in-Member.after c.in-Member.arg)
+    c.member.ensures.tree
+
+pub expr-returns-in-Member-clause-notes : goal.expr-returns-in-Member-clause-notes
+expr-returns-in-Member-clause-notes t c =
+    rw (c.in-Member.is, expr_of-Member c.args.scopes.now c.in-Member.word c.in-Member.after c.in-Member.arg)
+    c.member.ensures.notes
+
+pub expr-returns-in_ok-tree-in-Prefix-clause-tree : goal.expr-returns-in_ok-tree-in-Prefix-clause-tree
+expr-returns-in_ok-tree-in-Prefix-clause-tree t c =
+    rw (c.in-Prefix.is, expr_of-Prefix c.args.scopes.now c.in-Prefix.at c.in-Prefix.op c.in-Prefix.operand)
+    (search rules)
+
+pub expr-returns-in_ok-tree-in-Prefix-clause-notes : goal.expr-returns-in_ok-tree-in-Prefix-clause-notes
+expr-returns-in_ok-tree-in-Prefix-clause-notes t c =
+    rw (c.in-Prefix.is, expr_of-Prefix c.args.scopes.now c.in-Prefix.at c.in-Prefix.op c.in-Prefix.operand)
+    (search rules)
+
+pub expr-returns-in_ok-tree-in-Cast-clause-tree : goal.expr-returns-in_ok-tree-in-Cast-clause-tree
+expr-returns-in_ok-tree-in-Cast-clause-tree t c =
+    rw (c.in-Cast.is, expr_of-Cast c.args.scopes.now c.in-Cast.at c.in-Cast.form c.in-Cast.operand)
+    (search rules)
+
+pub expr-returns-in_ok-tree-in-Cast-clause-notes : goal.expr-returns-in_ok-tree-in-Cast-clause-notes
+expr-returns-in_ok-tree-in-Cast-clause-notes t c =
+    rw (c.in-Cast.is, expr_of-Cast c.args.scopes.now c.in-Cast.at c.in-Cast.form c.in-Cast.operand)
+    (search rules)
+
+pub expr-returns-in_ok-tree-in-Conversion-clause-tree : goal.expr-returns-in_ok-tree-in-Conversion-clause-tree
+expr-returns-in_ok-tree-in-Conversion-clause-tree t c =
+    rw (c.in-Conversion.is, expr_of-Conversion c.args.scopes.now c.in-Conversion.form c.in-Conversion.operand)
+    (search rules)
+
+pub expr-returns-in_ok-tree-in-Conversion-clause-notes : goal.expr-returns-in_ok-tree-in-Conversion-clause-notes
+expr-returns-in_ok-tree-in-Conversion-clause-notes t c =
+    rw (c.in-Conversion.is, expr_of-Conversion c.args.scopes.now c.in-Conversion.form c.in-Conversion.operand)
+    (search rules)
+
+pub expr-returns-in_ok-b-in-Binary-clause-tree : goal.expr-returns-in_ok-b-in-Binary-clause-tree
+expr-returns-in_ok-b-in-Binary-clause-tree t c =
+    rw (c.in-Binary.is, expr_of-Binary c.args.scopes.now c.in-Binary.op c.in-Binary.left c.in-Binary.right)
+    (search rules)
+
+pub expr-returns-in_ok-b-in-Choose-clause-tree : goal.expr-returns-in_ok-b-in-Choose-clause-tree
+expr-returns-in_ok-b-in-Choose-clause-tree t c =
+    rw (c.in-Choose.is, expr_of-Choose c.args.scopes.now c.in-Choose.test c.in-Choose.yes c.in-Choose.no)
+    (search rules)
 
 pub expr-returns-in_ok-b-in-Binary-clause-notes : goal.expr-returns-in_ok-b-in-Binary-clause-notes
 expr-returns-in_ok-b-in-Binary-clause-notes t c =

@@ -1,12 +1,14 @@
-use Rattle.std.proofs.Common.{◌∙◌, ap, List}
+use Rattle.std.proofs.Common.{◌∙◌, ap, List, Option}
+use Rattle.ooo_syntax.specs.declared.stat.ForStart.{ForStart}
 use Rattle.ooo_syntax.specs.declared.stat.Stat.{Stat}
 use Rattle.ooo_checked.specs.declared.stat.CheckedStat.{CheckedStat}
 use Rattle.ooo_checked.specs.declared.stat.CheckedStat.TheVariants as stat
-use Rattle.ooo_checked.specs.Scopes.{Scope}
-use Rattle.ooo_checked.specs.Stats.{Stepped, stat_of, stats_of}
+use Rattle.ooo_checked.specs.Exprs.{expr_of}
+use Rattle.ooo_checked.specs.Scopes.{Scope, entered}
+use Rattle.ooo_checked.specs.Stats.{Stepped, head_notes, inner, looped, option_start_of, stat_of, stats_of}
 use Rattle.ooo_bodies.specs.Noting.{noted}
 use Rattle.ooo_bodies.proofs.Blocks.{stat_of-Block, noted-If}
-use Rattle.ooo_bodies.specs.Parts.{ordered_trees, ordered_scope, ordered_notes}
+use Rattle.ooo_bodies.specs.Parts.{noted_two, ordered_trees, ordered_scope, ordered_notes}
 use Rattle.ooo_bodies.proofs.stats.+stat.Goals as goal
 
 pub stat-returns-in_ok-body-in-Block-clause-tree : goal.stat-returns-in_ok-body-in-Block-clause-tree
@@ -47,3 +49,26 @@ stat-returns-in_ok-no-in-If-clause-notes t c =
     c.in-If.is c.get-first.ensures c.in_ok-yes-in-If.ensures.scope
     (rw c.get-condition.ensures at c.in_ok-test-in-If.ensures.notes) c.in_ok-yes-in-If.ensures.notes
     c.in_ok-no-in-If.ensures.notes
+
+pub while_stat-returns-clause-notes : goal.while_stat-returns-clause-notes
+while_stat-returns-clause-notes t c =
+    (rw c.looped.ensures at c.in-Ok.ensures.notes)
+    ∙ noted_two c.args.notes.now c.boxed.new.notes (expr_of c.args.head.test.now c.args.scopes.now).notes _
+    (rw c.get.ensures at c.in_ok-test.ensures.notes)
+
+pub do_stat-returns-clause-notes : goal.do_stat-returns-clause-notes
+do_stat-returns-clause-notes t c =
+    let body : Stepped CheckedStat = inner (stat_of c.args.body.now) (looped c.args.context) c.args.scopes.now in
+    (rw (c.get.ensures, c.in_ok-body.ensures.scope, c.looped.ensures) at c.in-Ok.ensures.notes)
+    ∙ noted_two c.args.notes.now c.inner.new.notes body.notes (expr_of c.args.head.test.now body.scope).notes
+    (rw c.looped.ensures at c.in_ok-body.ensures.notes)
+
+pub for_stat-returns-clause-notes : goal.for_stat-returns-clause-notes
+for_stat-returns-clause-notes t c =
+    let begins : Option ForStart = c.args.head.begins.now in
+    let s : Scope = entered c.args.scopes.now in
+    let behind : Scope = (option_start_of c.args.context begins s).scope in
+    (rw (c.in_ok-made.ensures.scope, c.in_ok-enter.ensures.ok, c.looped.ensures) at c.in-Ok.ensures.notes)
+    ∙ noted_two c.args.notes.now c.for_head.new.notes (head_notes c.args.context begins c.args.head.test.now c.args.head.after.now s)
+    (inner (stat_of c.args.body.now) (looped c.args.context) behind).notes
+    (rw c.in_ok-enter.ensures.ok at c.in_ok-made.ensures.notes)
