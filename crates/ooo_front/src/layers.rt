@@ -16,7 +16,8 @@ use std::alloc::Global;
 
 /// Goes with a text through lexer, parser, types, elaboration and lowering, and counts the segments of its design.
 ///
-/// Tokens and trees are let go as soon as the next layer has read them, so that they take no memory any more.
+/// Tokens and trees are let go as soon as the next layer has read them, so that they take no memory any more: the tree of
+/// the text member by member, as the types are checked.
 ///
 /// # Errors
 ///
@@ -31,8 +32,7 @@ pub fn front(alloc: Global, source: &[u8]) -> Result<Accepted, Refused>
     let tokens = lex(alloc, source)?;
     let tree = parse(alloc, source, &tokens)?;
     drop(tokens);
-    let checked = check(alloc, &tree)?;
-    drop(tree);
+    let checked = check(alloc, tree)?;
     let bound = elaborate(alloc, checked.tree())?;
     drop(checked);
     let design = lower(alloc, &bound)?;

@@ -1,4 +1,4 @@
-ghost use Rattle.std.specs.Prelude.{◌≡◌, ◌++◌, map, IfOk, OnOk};
+ghost use Rattle.std.specs.Prelude.{◌≡◌, ◌++◌, map, reverse, IfOk, OnOk};
 ghost use Rattle.ooo_syntax.specs.declared.module.Field.{Field};
 ghost use Rattle.ooo_syntax.specs.declared.module.Part.{Part};
 ghost use Rattle.ooo_checked.specs.Notes.{all_notes, trees};
@@ -332,6 +332,25 @@ fn children(
     Ok(CheckedChildren { module_name, parts })
 }
 
+// Lets a value go.
+fn discard<T: Drop>(_value: T) {}
+
+/// The same items, the last one first.
+///
+/// # Errors
+///
+/// Only where memory runs out.
+pub fn reversed<T: Drop>(alloc: Global, items: Items<T>) -> Result<Items<T>, AllocError>
+    ensures { IfOk result (λ all. all ≡ reverse items) }
+{
+    let mut left = items;
+    let mut all = Items::new(alloc);
+    'parts: while let Some(item) = left.pop() {
+        all.push(item)?;
+    }
+    Ok(all)
+}
+
 impl Surroundings<'_> {
     /// A member, behind others. A function is added to those that are known, with what has to be known of it.
     ///
@@ -403,14 +422,41 @@ impl Surroundings<'_> {
         }
     }
 
-    /// Members one after the other.
+    // A member, which is let go.
+    fn taken(
+        self,
+        declared: Member,
+        scopes: &mut Scopes,
+        sofar: &mut Sofar,
+        functions: &mut Items<FunctionFacts>,
+        notes: &mut Notes,
+    ) -> Result<CheckedMember, AllocError>
+        ensures tree { IfOk result (λ tree. tree ≡ (member_of self.entry.modules.now
+            self.entry.module_name.now self.entry.initialised.now
+            scopes.old declared sofar.old).tree) }
+        ensures behind { OnOk result (sofar.new ≡ (member_of self.entry.modules.now
+            self.entry.module_name.now self.entry.initialised.now
+            scopes.old declared sofar.old).behind) }
+        ensures notes { OnOk result (notes.new ≡ noted notes.old (member_of
+            self.entry.modules.now self.entry.module_name.now self.entry.initialised.now
+            scopes.old declared sofar.old).notes) }
+        ensures scope { OnOk result (scopes.new ≡ scopes.old) }
+        ensures functions { OnOk result (functions.new
+            ≡ functions.old ++ functions_in declared scopes.old) }
+    {
+        let made = self.member(&declared, scopes, sofar, functions, notes);
+        discard(declared);
+        made
+    }
+
+    /// Members one after the other. Each is let go as soon as it is read, so that the next tree takes its memory.
     ///
     /// # Errors
     ///
     /// Only where memory runs out; what was noted until then is kept.
     pub fn members(
         self,
-        members: &Items<Member>,
+        members: Items<Member>,
         scopes: &mut Scopes,
         sofar: &mut Sofar,
         functions: &mut Items<FunctionFacts>,
@@ -418,20 +464,21 @@ impl Surroundings<'_> {
     ) -> Result<Items<CheckedMember>, AllocError>
         ensures trees { IfOk result (λ all. all ≡ (members_of self.entry.modules.now
             self.entry.module_name.now self.entry.initialised.now
-            scopes.old members.now sofar.old).tree) }
+            scopes.old members sofar.old).tree) }
         ensures behind { OnOk result (sofar.new ≡ (members_of self.entry.modules.now
             self.entry.module_name.now self.entry.initialised.now
-            scopes.old members.now sofar.old).behind) }
+            scopes.old members sofar.old).behind) }
         ensures notes { OnOk result (notes.new ≡ noted notes.old (members_of
             self.entry.modules.now self.entry.module_name.now self.entry.initialised.now
-            scopes.old members.now sofar.old).notes) }
+            scopes.old members sofar.old).notes) }
         ensures scope { OnOk result (scopes.new ≡ scopes.old) }
         ensures functions { OnOk result (functions.new
-            ≡ functions.old ++ functions_of members.now scopes.old) }
+            ≡ functions.old ++ functions_of members scopes.old) }
     {
         let mut all = Items::new(self.alloc);
-        'parts: for e in members.as_slice() {
-            all.push(self.member(e, scopes, sofar, functions, notes)?)?;
+        let mut rest = reversed(self.alloc, members)?;
+        'parts: while let Some(e) = rest.pop() {
+            all.push(self.taken(e, scopes, sofar, functions, notes)?)?;
         }
         Ok(all)
     }

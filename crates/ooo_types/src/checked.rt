@@ -43,14 +43,14 @@ impl Checked {
     }
 }
 
-/// Checks the names and types of a text.
+/// Checks the names and types of a text, and lets its tree go part by part.
 ///
 /// # Errors
 ///
 /// The breach of the text's names and types that stands first in it, and of several at one place the one that stands
 /// first in [`ooo_checked::TypeBreach`]; or memory runs out.
-pub fn check(alloc: Global, text: &Unit) -> Result<Checked, TypeError>
-    ensures { IsAnswerTo text.now result }
+pub fn check(alloc: Global, text: Unit) -> Result<Checked, TypeError>
+    ensures { IsAnswerTo text result }
 {
     let mut notes = Notes::new(alloc);
     let tree = unit(alloc, text, &mut notes)?;

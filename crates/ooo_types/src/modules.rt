@@ -122,30 +122,33 @@ pub(crate) fn module(
     alloc: Global,
     modules: &[Option<ModuleFacts>],
     name: Resolved,
-    declared: &Module,
+    declared: Module,
     scopes: &mut Scopes,
     notes: &mut Notes,
 ) -> Result<CheckedModule, AllocError>
     ensures tree { IfOk result (λ tree.
-        tree ≡ (module_of modules.now name declared.now scopes.old).tree) }
+        tree ≡ (module_of modules.now name declared scopes.old).tree) }
     ensures scope { OnOk result (scopes.new ≡ scopes.old) }
     ensures notes { OnOk result (notes.new
-        ≡ noted notes.old (module_of modules.now name declared.now scopes.old).notes) }
+        ≡ noted notes.old (module_of modules.now name declared scopes.old).notes) }
 {
     let outside = scopes.size();
-    let all = &declared.members;
+    let Module {
+        name: word,
+        members,
+    } = declared;
     scopes.enter()?;
-    declare_members(outside, all.as_slice(), scopes, notes)?;
+    declare_members(outside, members.as_slice(), scopes, notes)?;
     let mut sofar = at_first(alloc, scopes.size().saturating_sub(outside))?;
     let mut functions = Items::new(alloc);
-    let initialised = initialised(alloc, all)?;
+    let initialised = initialised(alloc, &members)?;
     let surroundings = Surroundings {
         alloc,
         modules,
-        module_name: declared.name.name.as_bytes(),
+        module_name: word.name.as_bytes(),
         initialised: &initialised,
     };
-    let members = surroundings.members(all, scopes, &mut sofar, &mut functions, notes)?;
+    let members = surroundings.members(members, scopes, &mut sofar, &mut functions, notes)?;
     scopes.leave();
     note_functions(alloc, &sofar, &functions, notes)?;
     Ok(CheckedModule { name, members })

@@ -1,11 +1,10 @@
-ghost use Rattle.std.specs.Prelude.{◌≡◌, ◌∷◌, ◌++◌, [], Some, None, IfOk, OnOk};
+ghost use Rattle.std.specs.Prelude.{◌≡◌, ◌∷◌, ◌++◌, [], None, IfOk, OnOk};
 ghost use Rattle.ooo_checked.specs.Notes.{all_notes, trees};
 ghost use Rattle.ooo_checked.specs.Scopes.{entered};
 ghost use Rattle.ooo_bodies.specs.Noting.{noted};
 ghost use Rattle.ooo_members.specs.Declarations.{name_of};
 ghost use Rattle.ooo_types.specs.Units.{channel_of, constant_item_of, constant_of, instance_of, item_of};
 ghost use Rattle.ooo_types.specs.Units.{clock_of, form_notes, items_of, main_item_of, module_item_of};
-ghost use Rattle.ooo_types.specs.Modules.{facts_of};
 ghost use Rattle.ooo_types.specs.Units.{at_first, main_items_of, main_of, option_start_form_of, parameter_of};
 ghost use Rattle.ooo_types.specs.Units.{unit_of, values_of, with_name};
 
@@ -21,7 +20,7 @@ use ooo_members::args::{args, constant_time, is_instance_form};
 use ooo_members::bodies::name;
 use ooo_members::declarations::{channel_thing, declare, denotation, instance_thing, is_module};
 use ooo_members::known::ModuleFacts;
-use ooo_members::members::{PartForm, constant_named, option_args, params_of_module};
+use ooo_members::members::{PartForm, constant_named, option_args, params_of_module, reversed};
 use ooo_members::setups::binding;
 use ooo_scopes::Scopes;
 use ooo_syntax::{
@@ -112,15 +111,6 @@ fn add_name(file: &mut File, facts: Option<ModuleFacts>) -> Result<(), AllocErro
     file.modules.push(facts)
 }
 
-// What is known of a file behind a module.
-fn add_facts(alloc: Global, file: &mut File, declared: &Module) -> Result<(), AllocError>
-    ensures { OnOk result
-        (file.new ≡ with_name (Some (facts_of declared.now)) file.old.scope file.old) }
-{
-    let facts = facts(alloc, declared)?;
-    add_name(file, Some(facts))
-}
-
 // What is known of a file behind a name of another thing.
 fn add_nothing(file: &mut File) -> Result<(), AllocError>
     ensures { OnOk result (file.new ≡ with_name None file.old.scope file.old) }
@@ -158,17 +148,18 @@ fn constant_item(
 fn module_item(
     alloc: Global,
     file: &mut File,
-    declared_module: &Module,
+    declared_module: Module,
     notes: &mut Notes,
 ) -> Result<CheckedModule, AllocError>
-    ensures tree { IfOk result (λ tree. tree ≡ (module_item_of declared_module.now file.old).tree) }
-    ensures behind { OnOk result (file.new ≡ (module_item_of declared_module.now file.old).behind) }
+    ensures tree { IfOk result (λ tree. tree ≡ (module_item_of declared_module file.old).tree) }
+    ensures behind { OnOk result (file.new ≡ (module_item_of declared_module file.old).behind) }
     ensures notes { OnOk result (notes.new
-        ≡ noted notes.old (module_item_of declared_module.now file.old).notes) }
+        ≡ noted notes.old (module_item_of declared_module file.old).notes) }
 {
-    let word = &declared_module.name;
+    let facts = facts(alloc, &declared_module)?;
+    let word = copy_word(alloc, &declared_module.name)?;
     let thing = Thing::Module(params_count(declared_module.members.as_slice()));
-    let name = own(alloc, 0, thing, word, &file.scope)?;
+    let name = own(alloc, 0, thing, &word, &file.scope)?;
     let modules = file.modules.as_slice();
     let tree = module(
         alloc,
@@ -178,8 +169,8 @@ fn module_item(
         &mut file.scope,
         notes,
     )?;
-    let tree = declared(tree, 0, thing, word, &mut file.scope, notes)?;
-    match add_facts(alloc, file, declared_module) {
+    let tree = declared(tree, 0, thing, &word, &mut file.scope, notes)?;
+    match add_name(file, Some(facts)) {
         Ok(()) => Ok(tree),
         Err(error) => {
             discard(tree);
@@ -192,19 +183,20 @@ fn module_item(
 fn item(
     alloc: Global,
     file: &mut File,
-    declared_item: &UnitItem,
+    declared_item: UnitItem,
     notes: &mut Notes,
 ) -> Result<CheckedUnitItem, AllocError>
-    ensures tree { IfOk result (λ tree. tree ≡ (item_of declared_item.now file.old).tree) }
-    ensures behind { OnOk result (file.new ≡ (item_of declared_item.now file.old).behind) }
+    ensures tree { IfOk result (λ tree. tree ≡ (item_of declared_item file.old).tree) }
+    ensures behind { OnOk result (file.new ≡ (item_of declared_item file.old).behind) }
     ensures notes { OnOk result (notes.new
-        ≡ noted notes.old (item_of declared_item.now file.old).notes) }
+        ≡ noted notes.old (item_of declared_item file.old).notes) }
 {
     match declared_item {
-        UnitItem::Using(library) => Ok(CheckedUnitItem::Using(*library)),
+        UnitItem::Using(library) => Ok(CheckedUnitItem::Using(library)),
         UnitItem::Constant(c) => {
-            let c = constant_item(alloc, file, c, notes)?;
-            Ok(CheckedUnitItem::Constant(c))
+            let tree = constant_item(alloc, file, &c, notes);
+            discard(c);
+            Ok(CheckedUnitItem::Constant(tree?))
         }
         UnitItem::Module(m) => {
             let m = module_item(alloc, file, m, notes)?;
@@ -213,20 +205,21 @@ fn item(
     }
 }
 
-// The declarations of the file one after the other.
+// The declarations of the file one after the other. Each is let go as soon as it is read.
 fn items(
     alloc: Global,
     file: &mut File,
-    items: &Items<UnitItem>,
+    items: Items<UnitItem>,
     notes: &mut Notes,
 ) -> Result<Items<CheckedUnitItem>, AllocError>
-    ensures trees { IfOk result (λ all. all ≡ (items_of items.now file.old).tree) }
-    ensures behind { OnOk result (file.new ≡ (items_of items.now file.old).behind) }
+    ensures trees { IfOk result (λ all. all ≡ (items_of items file.old).tree) }
+    ensures behind { OnOk result (file.new ≡ (items_of items file.old).behind) }
     ensures notes { OnOk result (notes.new
-        ≡ noted notes.old (items_of items.now file.old).notes) }
+        ≡ noted notes.old (items_of items file.old).notes) }
 {
     let mut all = Items::new(alloc);
-    'parts: for e in items.as_slice() {
+    let mut rest = reversed(alloc, items)?;
+    'parts: while let Some(e) = rest.pop() {
         all.push(item(alloc, file, e, notes)?)?;
     }
     Ok(all)
@@ -493,15 +486,15 @@ fn main(
 ///
 /// Only where memory runs out.
 #[tactic(auto, using(ooo_bodies::specs::Noting::noted_append))]
-pub(crate) fn unit(alloc: Global, unit: &Unit, notes: &mut Notes) -> Result<CheckedUnit, AllocError>
-    ensures tree { IfOk result (λ tree. tree ≡ (unit_of unit.now).tree) }
-    ensures notes { OnOk result (notes.new ≡ noted notes.old (unit_of unit.now).notes) }
+pub(crate) fn unit(alloc: Global, unit: Unit, notes: &mut Notes) -> Result<CheckedUnit, AllocError>
+    ensures tree { IfOk result (λ tree. tree ≡ (unit_of unit).tree) }
+    ensures notes { OnOk result (notes.new ≡ noted notes.old (unit_of unit).notes) }
 {
     let mut scope = Scopes::new(alloc);
     scope.enter()?;
     let modules = Items::new(alloc);
     let mut file = File { modules, scope };
-    let items = items(alloc, &mut file, &unit.items, notes)?;
+    let items = items(alloc, &mut file, unit.items, notes)?;
     let main = main(alloc, &mut file, &unit.main, notes)?;
     Ok(CheckedUnit { items, main })
 }

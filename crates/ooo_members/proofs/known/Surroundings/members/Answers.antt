@@ -1,4 +1,5 @@
-use Rattle.std.proofs.Common.{◌≡◌, ◌∙◌, ap, ◌++◌, List}
+use Rattle.std.proofs.Common.{◌≡◌, ◌∙◌, ap, ◌++◌, List, reverse, refl}
+use Rattle.std.proofs.lemmas.List.{reverse-reverse}
 use Rattle.ooo_syntax.specs.declared.module.Member.{Member}
 use Rattle.ooo_checked.specs.declared.module.CheckedMember.{CheckedMember}
 use Rattle.ooo_checked.specs.Scopes.{Scope}
@@ -6,13 +7,27 @@ use Rattle.ooo_bodies.specs.Noting.{noted}
 use Rattle.ooo_members.specs.declared.known.FunctionFacts.{FunctionFacts}
 use Rattle.ooo_members.specs.declared.known.Sofar.{Sofar}
 use Rattle.ooo_members.specs.Members.{functions_in, functions_of, member_of, members_of}
-use Rattle.ooo_members.specs.Turns.{Turn, turn_trees, turn_behind, turn_notes}
+use Rattle.ooo_members.specs.Turns.{Turn, taken_trees, taken_behind, taken_notes}
 use Rattle.ooo_members.proofs.FunctionLists.{functions_step}
 use Rattle.ooo_members.proofs.known.Surroundings.members.Goals as goal
 
+pub parts-init : goal.parts-init
+parts-init c =
+    let xs : List Member = c.args.members in
+    let s : Scope = c.args.scopes.now in
+    let whole : List Member → Turn Sofar (List CheckedMember) =
+    λ ms. members_of c.args.self.modules.now c.args.self.module_name.now c.args.self.initialised.now s ms c.args.sofar.now in
+    let same : reverse c.in_ok-rest.rest ≡ xs = ap reverse c.in_ok-rest.ensures ∙ reverse-reverse xs in record {
+      trees = rw (c.new-all.ensures) (ap (λ ms. (whole ms).tree) same);
+      behind = ap (λ ms. (whole ms).behind) same;
+      notes = ap (λ ms. noted c.args.notes.now (whole ms).notes) same;
+      scope = refl;
+      functions = ap (λ ms. c.args.functions.now ++ functions_of ms s) same;
+    }
+
 pub parts-preserved : goal.parts-preserved
 parts-preserved c =
-    let xs : List Member = c.as_slice-e-items.result.now in
+    let xs : List Member = c.args.members in
     let s : Scope = c.args.scopes.now in
     let in_scope : Scope → Member → Sofar → Turn Sofar CheckedMember =
     λ s m before. member_of c.args.self.modules.now c.args.self.module_name.now c.args.self.initialised.now s m before in
@@ -20,22 +35,22 @@ parts-preserved c =
     let whole : Turn Sofar (List CheckedMember) =
     members_of c.args.self.modules.now c.args.self.module_name.now c.args.self.initialised.now s xs c.args.sofar.now in
     let same : c.parts.scopes ≡ s = c.parts.invariant.scope in
-    let tree : c.in_ok-member.field-0 ≡ (f c.e-item.result c.parts.sofar).tree =
-    c.in_ok-member.ensures.tree ∙ ap (λ u. (in_scope u c.e-item.result c.parts.sofar).tree) same in
-    let behind : c.member.new.sofar ≡ (f c.e-item.result c.parts.sofar).behind =
-    c.in_ok-member.ensures.behind ∙ ap (λ u. (in_scope u c.e-item.result c.parts.sofar).behind) same in
-    let notes : c.member.new.notes ≡ noted c.parts.notes (f c.e-item.result c.parts.sofar).notes =
-    c.in_ok-member.ensures.notes ∙ ap (λ u. noted c.parts.notes (in_scope u c.e-item.result c.parts.sofar).notes) same in
-    let functions : c.member.new.functions ≡ c.parts.functions ++ functions_in c.e-item.result s =
-    c.in_ok-member.ensures.functions ∙ ap (λ u. c.parts.functions ++ functions_in c.e-item.result u) same in record {
-      trees = turn_trees f c.parts.all c.push.new.self xs c.parts.e-index c.e-item.result c.in_ok-member.field-0
-          c.parts.sofar c.member.new.sofar whole.tree c.parts-test.true c.e-item.is tree behind c.in_ok-push.ensures.ok
+    let tree : c.in_ok-taken.field-0 ≡ (f c.in-Some.e c.parts.sofar).tree =
+    c.in_ok-taken.ensures.tree ∙ ap (λ u. (in_scope u c.in-Some.e c.parts.sofar).tree) same in
+    let behind : c.taken.new.sofar ≡ (f c.in-Some.e c.parts.sofar).behind =
+    c.in_ok-taken.ensures.behind ∙ ap (λ u. (in_scope u c.in-Some.e c.parts.sofar).behind) same in
+    let notes : c.taken.new.notes ≡ noted c.parts.notes (f c.in-Some.e c.parts.sofar).notes =
+    c.in_ok-taken.ensures.notes ∙ ap (λ u. noted c.parts.notes (in_scope u c.in-Some.e c.parts.sofar).notes) same in
+    let functions : c.taken.new.functions ≡ c.parts.functions ++ functions_in c.in-Some.e s =
+    c.in_ok-taken.ensures.functions ∙ ap (λ u. c.parts.functions ++ functions_in c.in-Some.e u) same in record {
+      trees = taken_trees f c.parts.all c.push.new.self c.parts.rest c.pop.new.self c.in-Some.e c.in_ok-taken.field-0
+          c.parts.sofar c.taken.new.sofar whole.tree c.in-Some.ensures tree behind c.in_ok-push.ensures.ok
           c.parts.invariant.trees;
-      behind = turn_behind f xs c.parts.e-index c.e-item.result c.parts.sofar c.member.new.sofar whole.behind
-          c.parts-test.true c.e-item.is behind c.parts.invariant.behind;
-      notes = turn_notes f c.parts.notes c.member.new.notes (noted c.args.notes.now whole.notes) xs c.parts.e-index
-          c.e-item.result c.parts.sofar c.member.new.sofar c.parts-test.true c.e-item.is behind notes c.parts.invariant.notes;
-      scope = c.in_ok-member.ensures.scope ∙ same;
-      functions = functions_step s c.parts.functions c.member.new.functions (c.args.functions.now ++ functions_of xs s) xs
-          c.parts.e-index c.e-item.result c.parts-test.true c.e-item.is functions c.parts.invariant.functions;
+      behind = taken_behind f c.parts.rest c.pop.new.self c.in-Some.e c.parts.sofar c.taken.new.sofar whole.behind
+          c.in-Some.ensures behind c.parts.invariant.behind;
+      notes = taken_notes f c.parts.notes c.taken.new.notes (noted c.args.notes.now whole.notes) c.parts.rest
+          c.pop.new.self c.in-Some.e c.parts.sofar c.taken.new.sofar c.in-Some.ensures behind notes c.parts.invariant.notes;
+      scope = c.in_ok-taken.ensures.scope ∙ same;
+      functions = functions_step s c.parts.functions c.taken.new.functions (c.args.functions.now ++ functions_of xs s)
+          c.parts.rest c.pop.new.self c.in-Some.e c.in-Some.ensures functions c.parts.invariant.functions;
     }
