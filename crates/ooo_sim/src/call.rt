@@ -11,6 +11,7 @@ ghost use Rattle.ooo_sim.specs.declared.outcome.Outcome.TheVariants as outcome;
 ghost use Rattle.ooo_sim.specs.declared.request.Request.{Request as RequestSpec};
 ghost use Rattle.ooo_sim.specs.declared.request.Request.TheVariants as request;
 
+use crate::keeping::discard;
 use crate::law::one_reply;
 use crate::outcome::{Failure, Outcome, Refusal};
 use crate::pump::{ReadError, read_text, write_text};
@@ -22,6 +23,7 @@ use ooo_gen::text;
 use ooo_lexer::MOST_BYTES;
 use ooo_outside::{Failed, Gate, Sink, Source};
 use ooo_words::RunOptions;
+use sqlite_items::Boxed;
 use std::alloc::{AllocError, Global};
 use std::sync::Wait;
 use std::thread::Threads;
@@ -61,7 +63,8 @@ pub fn alone<So: Source, Si: Sink>(
     };
     match answer_alone(alloc, request, source) {
         Some(answer) => {
-            let (outcome, _board) = tell(sink, answer);
+            let (outcome, board) = tell(sink, answer);
+            discard(board);
             Some(outcome)
         }
         None => None,
@@ -120,11 +123,18 @@ fn tell<Si: Sink>(sink: &mut Si, answer: Result<Answer, ReadError>) -> (Outcome,
         Ok(Answer { reply, board }) => {
             one_reply();
             match write_text(sink, reply.text.as_slice()) {
-                Ok(()) => (Outcome::Replied(reply.verdict), board),
+                Ok(()) => (Outcome::Replied(reply.verdict), unboxed(board)),
                 Err(Failed) => (Outcome::Failed(Failure::Sink), None),
             }
         }
     }
+}
+
+// A board of an answer, off the heap.
+fn unboxed(board: Option<Boxed<Board>>) -> Option<Board>
+    ensures { result ≡ board }
+{
+    Some(board?.into_inner())
 }
 
 // The answer to a request that takes no workers, from the text that a source gives; None to any other.

@@ -5,8 +5,22 @@
 //! of its source and its sink, and `specs/Boards.antt` which board it hands out.
 #![tactic(auto)]
 
+// Of an outcome what was made; an error is handed on, and the values made before it are let go.
+macro_rules! keeping {
+    ($($kept:ident),+; $made:expr) => {
+        match $made {
+            Ok(made) => made,
+            Err(error) => {
+                $(crate::keeping::discard($kept);)+
+                return Err(error);
+            }
+        }
+    };
+}
+
 mod call;
 mod counts;
+mod keeping;
 pub mod law;
 mod lines;
 mod outcome;

@@ -1,4 +1,4 @@
-ghost use Rattle.std.specs.Prelude.{◌≡◌, ◌≢◌, None, IfErr, IfOk, OnOk};
+ghost use Rattle.std.specs.Prelude.{◌≡◌, ◌≢◌, None, Some, IfErr, IfOk, OnOk};
 ghost use Rattle.ooo_front.specs.declared.answer.Refused.TheVariants as front;
 ghost use Rattle.ooo_sim.specs.Laws.{IsReady};
 ghost use Rattle.ooo_sim.specs.Replies.{IsAcceptedAs, IsRefusedAs, IsReplyOf, IsTextReply, Lists, counts_of, limits_of, refused, reply, stop_of};
@@ -23,7 +23,7 @@ use ooo_shapes::law::sound_design;
 use ooo_tables::{Tables, text};
 use ooo_time::Time;
 use ooo_words::RunOptions;
-use sqlite_items::Items;
+use sqlite_items::{Boxed, Items};
 use std::alloc::{AllocError, Global};
 
 /// What a call would write, and what that comes to.
@@ -49,10 +49,26 @@ impl Reply {
 #[derive(Drop)]
 pub(crate) struct Answer {
     pub reply: Reply,
-    pub board: Option<Board>,
+    pub board: Option<Boxed<Board>>,
 }
 
 impl Answer {
+    /// The answer of a call that tells of the run of this board.
+    pub(crate) fn with_board(
+        alloc: Global,
+        reply: Reply,
+        board: Board,
+    ) -> Result<Answer, AllocError>
+        ensures reply { IfOk result (λ a. a.reply ≡ reply) }
+        ensures board { IfOk result (λ a. a.board ≡ Some board) }
+    {
+        let board = keeping!(reply; Boxed::new(alloc, board));
+        Ok(Answer {
+            reply,
+            board: Some(board),
+        })
+    }
+
     /// The answer of a call that has no board.
     pub(crate) fn without_board(reply: Reply) -> Answer
         ensures reply { result.reply ≡ reply }

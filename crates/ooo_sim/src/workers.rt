@@ -1,5 +1,7 @@
 ghost use Rattle.std.specs.Prelude.{◌≡◌, ◌<◌, ℕ, List, Some, IfErr, IfOk};
 ghost use Rattle.ooo_board.specs.Boards.{IsOver};
+ghost use Rattle.ooo_code.specs.Sound.{IsSound as IsSoundDesign};
+ghost use Rattle.ooo_front.specs.Layers.{HasFew};
 ghost use Rattle.ooo_plain.specs.Cycles.{AreInRange as AreRunLimits};
 ghost use Rattle.ooo_plain.specs.Running.{ShowsRun};
 ghost use Rattle.ooo_words.specs.declared.command.RunOptions.{RunOptions as RunOptionsSpec};
@@ -10,13 +12,14 @@ ghost use Rattle.ooo_sim.specs.Replies.{TellsRun};
 ghost use Rattle.ooo_sim.specs.declared.workers.RunError.TheVariants as run_error;
 ghost use Rattle.ooo_sim.specs.declared.request.Told.{Told as ToldSpec};
 
+use crate::keeping::discard;
 use crate::outcome::Refusal;
-use crate::reply::{Answer, accept, limits_of, refuse, stop_of};
+use crate::reply::{Answer, Reply, accept, limits_of, refuse, stop_of};
 use crate::request::Told;
 use crate::running::told_of_run;
 use ooo_board::Board;
 use ooo_bound::Bound;
-use ooo_code::Limits;
+use ooo_code::{Design, Limits};
 use ooo_front::Accepted;
 use ooo_history::Run;
 use ooo_meaning::law::every_design_runs;
@@ -136,7 +139,10 @@ fn start(alloc: Global, text: &[u8], options: RunOptions) -> Result<ModelRun, Ru
     let accepted = accept(alloc, text)?;
     match stop_of(options.stop, &accepted.bound) {
         Some(stop) => Ok(first_board(alloc, accepted, limits_of(options, stop))?),
-        None => Err(RunError::Refused(Refusal::StopMissing)),
+        None => {
+            discard(accepted);
+            Err(RunError::Refused(Refusal::StopMissing))
+        }
     }
 }
 
@@ -151,14 +157,31 @@ fn first_board(alloc: Global, accepted: Accepted, limits: Limits) -> Result<Mode
 {
     sound_design();
     let Accepted { bound, design, .. } = accepted;
-    let tables = Tables::make(alloc, &design)?;
-    let design = Arc::new(alloc, design)?;
-    let board = Board::make(alloc, design, tables, limits)?;
+    let board = keeping!(bound; fresh_board(alloc, design, limits));
     Ok(ModelRun {
         model: bound,
         limits,
         board,
     })
+}
+
+// The board of a design's run, before any step.
+fn fresh_board(alloc: Global, design: Design, limits: Limits) -> Result<Board, AllocError>
+    requires sound { IsSoundDesign design }
+    requires few { HasFew design }
+    requires range { AreRunLimits limits }
+    ensures { IfOk result (IsFresh design limits) }
+{
+    let tables = keeping!(design; Tables::make(alloc, &design));
+    let design = keeping!(tables; shared(alloc, design));
+    Board::make(alloc, design, tables, limits)
+}
+
+// A design that a board can hold.
+fn shared(alloc: Global, design: Design) -> Result<Arc<Design>, AllocError>
+    ensures { IfOk result (λ shared. shared.value ≡ design) }
+{
+    Ok(Arc::new(alloc, design)?)
 }
 
 // A run whose board is over. Where it isn't, a job was abandoned, since memory ran out.
@@ -170,6 +193,7 @@ fn once_over(run: ModelRun) -> Result<ModelRun, RunError>
     if run.board.is_over() {
         Ok(run)
     } else {
+        discard(run);
         Err(RunError::OutOfMemory)
     }
 }
@@ -180,17 +204,17 @@ fn told_of(alloc: Global, told: Told, run: ModelRun) -> Result<Answer, AllocErro
     ensures reply { IfOk result (λ a. TellsRun told run.model run.limits a.reply) }
     ensures board { IfOk result (λ a. a.board ≡ Some run.board) }
 {
-    let ModelRun {
-        model,
-        limits,
-        board,
-    } = run;
-    let shown = run_of(alloc, &board)?;
-    let reply = told_of_run(alloc, told, &model, limits, &shown)?;
-    Ok(Answer {
-        reply,
-        board: Some(board),
-    })
+    let reply = keeping!(run; reply_of(alloc, told, &run));
+    Answer::with_board(alloc, reply, run.board)
+}
+
+// The reply that tells of a run whose board is over.
+fn reply_of(alloc: Global, told: Told, run: &ModelRun) -> Result<Reply, AllocError>
+    requires { MayBeTold run.now }
+    ensures { IfOk result (TellsRun told run.now.model run.now.limits) }
+{
+    let shown = run_of(alloc, &run.board)?;
+    told_of_run(alloc, told, &run.model, run.limits, &shown)
 }
 
 // The run of a board that is over: that of its design, which has one.

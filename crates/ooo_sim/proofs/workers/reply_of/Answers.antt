@@ -1,4 +1,4 @@
-use Rattle.ooo_sim.proofs.workers.told_of.Goals as goal
+use Rattle.ooo_sim.proofs.workers.reply_of.Goals as goal
 
 pub told_of_run-requires-clause-shown : goal.told_of_run-requires-clause-shown
 told_of_run-requires-clause-shown c = rw (c.requires.may.design, c.requires.may.limits) at c.in_ok-shown.ensures
