@@ -14,6 +14,20 @@ use ooo_sound::law::sound;
 use ooo_types::check;
 use std::alloc::Global;
 
+// Of an outcome what was made; an error is a refusal, and the value made before it is let go.
+macro_rules! keeping {
+    ($kept:ident; $made:expr) => {
+        match $made {
+            Ok(made) => made,
+            Err(error) => {
+                let refused = Refused::from(error);
+                drop($kept);
+                return Err(refused);
+            }
+        }
+    };
+}
+
 /// Goes with a text through lexer, parser, types, elaboration and lowering, and counts the segments of its design.
 ///
 /// Tokens and trees are let go as soon as the next layer has read them, so that they take no memory any more: the tree of
@@ -30,13 +44,17 @@ pub fn front(alloc: Global, source: &[u8]) -> Result<Accepted, Refused>
 {
     sound();
     let tokens = lex(alloc, source)?;
-    let tree = parse(alloc, source, &tokens)?;
+    let tree = keeping!(tokens; parse(alloc, source, &tokens));
     drop(tokens);
     let checked = check(alloc, tree)?;
-    let bound = elaborate(alloc, checked.tree())?;
+    let bound = keeping!(checked; elaborate(alloc, checked.tree()));
     drop(checked);
-    let design = lower(alloc, &bound)?;
-    let segments = segment_count(&design).ok_or(Refused::TooManySegments)?;
+    let design = keeping!(bound; lower(alloc, &bound));
+    let Some(segments) = segment_count(&design) else {
+        drop(design);
+        drop(bound);
+        return Err(Refused::TooManySegments);
+    };
     Ok(Accepted {
         bound,
         design,
