@@ -97,13 +97,7 @@ pub enum CheckedStart {
 /// A statement. A position is that of the first token.
 #[derive(Drop)]
 pub enum CheckedStat {
-    Block(Position, Items<CheckedStat>),
-    Empty(Position),
-    Local(Boxed<CheckedLocal>),
     Simple(Boxed<CheckedSimple>),
-    If(Position, Boxed<CheckedExpr>, Boxed<CheckedStat>, Option<Boxed<CheckedStat>>),
-    While(Position, Boxed<CheckedExpr>, Boxed<CheckedStat>),
-    Do(Position, Boxed<CheckedStat>, Boxed<CheckedExpr>),
     For(
         Position,
         Option<Boxed<CheckedStart>>,
@@ -111,7 +105,13 @@ pub enum CheckedStat {
         Option<Boxed<CheckedSimple>>,
         Boxed<CheckedStat>,
     ),
+    If(Position, Boxed<CheckedExpr>, Boxed<CheckedStat>, Option<Boxed<CheckedStat>>),
+    While(Position, Boxed<CheckedExpr>, Boxed<CheckedStat>),
+    Do(Position, Boxed<CheckedStat>, Boxed<CheckedExpr>),
+    Block(Position, Items<CheckedStat>),
+    Local(Boxed<CheckedLocal>),
+    Return(Position, Option<Boxed<CheckedExpr>>),
+    Empty(Position),
     Break(Position),
     Continue(Position),
-    Return(Position, Option<Boxed<CheckedExpr>>),
 }

@@ -129,15 +129,15 @@ pub enum ForStart {
 /// A statement. A position is that of the first token.
 #[derive(Drop)]
 pub enum Stat {
-    Block(Position, Items<Stat>),
-    Empty(Position),
-    Local(Boxed<Local>),
     Simple(Boxed<Simple>),
+    For(Position, Option<Boxed<ForStart>>, Option<Boxed<Expr>>, Option<Boxed<Simple>>, Boxed<Stat>),
     If(Position, Boxed<Expr>, Boxed<Stat>, Option<Boxed<Stat>>),
     While(Position, Boxed<Expr>, Boxed<Stat>),
     Do(Position, Boxed<Stat>, Boxed<Expr>),
-    For(Position, Option<Boxed<ForStart>>, Option<Boxed<Expr>>, Option<Boxed<Simple>>, Boxed<Stat>),
+    Block(Position, Items<Stat>),
+    Local(Boxed<Local>),
+    Return(Position, Option<Boxed<Expr>>),
+    Empty(Position),
     Break(Position),
     Continue(Position),
-    Return(Position, Option<Boxed<Expr>>),
 }
