@@ -3,7 +3,7 @@ ghost use Rattle.ooo_types.specs.Told.{IsAnswerTo};
 ghost use Rattle.ooo_types.specs.Units.{unit_of};
 
 use crate::law;
-use crate::units::{discard, unit};
+use crate::units::unit;
 use ooo_bodies::notes::Notes;
 use ooo_checked::{CheckedUnit, TypeError};
 use ooo_syntax::Unit;
@@ -56,7 +56,7 @@ pub fn check(alloc: Global, text: Unit) -> Result<Checked, TypeError>
     let tree = unit(alloc, text, &mut notes)?;
     match notes.breach {
         Some(breach) => {
-            discard(tree);
+            drop(tree);
             Err(TypeError::Refused(breach.what, breach.at))
         }
         None => {

@@ -7,6 +7,19 @@
 //! which calls lie on a cycle. Module `law`: what is lent is, without its additions, the text that was given.
 #![tactic(auto)]
 
+// Of an outcome what was made; an error is handed on, and the values made before it are let go.
+macro_rules! keeping {
+    ($($kept:ident),+; $made:expr) => {
+        match $made {
+            Ok(made) => made,
+            Err(error) => {
+                $(drop($kept);)+
+                return Err(error);
+            }
+        }
+    };
+}
+
 mod checked;
 pub mod law;
 mod modules;

@@ -137,19 +137,27 @@ pub(crate) fn module(
         name: word,
         members,
     } = declared;
-    scopes.enter()?;
-    declare_members(outside, members.as_slice(), scopes, notes)?;
-    let mut sofar = at_first(alloc, scopes.size().saturating_sub(outside))?;
+    keeping!(name, word, members; scopes.enter());
+    keeping!(name, word, members; declare_members(outside, members.as_slice(), scopes, notes));
+    let size = scopes.size().saturating_sub(outside);
+    let mut sofar = keeping!(name, word, members; at_first(alloc, size));
     let mut functions = Items::new(alloc);
-    let initialised = initialised(alloc, &members)?;
+    let initialised = keeping!(name, word, members, sofar; initialised(alloc, &members));
     let surroundings = Surroundings {
         alloc,
         modules,
         module_name: word.name.as_bytes(),
         initialised: &initialised,
     };
-    let members = surroundings.members(members, scopes, &mut sofar, &mut functions, notes)?;
+    let members = keeping!(
+        name, word, initialised, sofar, functions;
+        surroundings.members(members, scopes, &mut sofar, &mut functions, notes)
+    );
+    drop(word);
+    drop(initialised);
     scopes.leave();
-    note_functions(alloc, &sofar, &functions, notes)?;
+    keeping!(name, members, sofar, functions; note_functions(alloc, &sofar, &functions, notes));
+    drop(sofar);
+    drop(functions);
     Ok(CheckedModule { name, members })
 }

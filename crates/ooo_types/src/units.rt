@@ -39,9 +39,6 @@ struct File {
     scope: Scopes,
 }
 
-/// Lets a value go.
-pub(crate) fn discard<T: Drop>(_value: T) {}
-
 // A name as it will be declared here.
 fn own(
     alloc: Global,
@@ -75,7 +72,7 @@ fn declared<T: Drop>(
     match declare(outside, thing, word, scopes, notes) {
         Ok(()) => Ok(made),
         Err(error) => {
-            discard(made);
+            drop(made);
             Err(error)
         }
     }
@@ -137,7 +134,7 @@ fn constant_item(
     match add_nothing(file) {
         Ok(()) => Ok(tree),
         Err(error) => {
-            discard(tree);
+            drop(tree);
             Err(error)
         }
     }
@@ -173,7 +170,7 @@ fn module_item(
     match add_name(file, Some(facts)) {
         Ok(()) => Ok(tree),
         Err(error) => {
-            discard(tree);
+            drop(tree);
             Err(error)
         }
     }
@@ -195,7 +192,7 @@ fn item(
         UnitItem::Using(library) => Ok(CheckedUnitItem::Using(library)),
         UnitItem::Constant(c) => {
             let tree = constant_item(alloc, file, &c, notes);
-            discard(c);
+            drop(c);
             Ok(CheckedUnitItem::Constant(tree?))
         }
         UnitItem::Module(m) => {
@@ -490,11 +487,17 @@ pub(crate) fn unit(alloc: Global, unit: Unit, notes: &mut Notes) -> Result<Check
     ensures tree { IfOk result (λ tree. tree ≡ (unit_of unit).tree) }
     ensures notes { OnOk result (notes.new ≡ noted notes.old (unit_of unit).notes) }
 {
+    let Unit {
+        items: declared,
+        main: last,
+    } = unit;
     let mut scope = Scopes::new(alloc);
-    scope.enter()?;
+    keeping!(declared, last, scope; scope.enter());
     let modules = Items::new(alloc);
     let mut file = File { modules, scope };
-    let items = items(alloc, &mut file, unit.items, notes)?;
-    let main = main(alloc, &mut file, &unit.main, notes)?;
+    let items = keeping!(last, file; items(alloc, &mut file, declared, notes));
+    let main = keeping!(last, file, items; main(alloc, &mut file, &last, notes));
+    drop(last);
+    drop(file);
     Ok(CheckedUnit { items, main })
 }
