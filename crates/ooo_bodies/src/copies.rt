@@ -49,6 +49,3 @@ pub fn kind_written(form: TypeForm) -> Kind
         TypeForm::UnsignedLongLong | TypeForm::UnsignedLongLongInt => Kind::Ulong,
     }
 }
-
-// Lets a value go.
-pub(crate) fn discard<T: Drop>(_value: T) {}

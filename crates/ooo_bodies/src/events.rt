@@ -4,7 +4,7 @@ ghost use Rattle.ooo_checked.specs.Stats.{awaited_of, event_call_notes, event_me
 ghost use Rattle.ooo_checked.specs.Stats.{is_call_of, time_of};
 ghost use Rattle.ooo_bodies.specs.Noting.{noted};
 
-use crate::copies::{copy_word, discard, resolve};
+use crate::copies::{copy_word, resolve};
 use crate::exprs::expr;
 use crate::notes::Notes;
 use ooo_checked::{
@@ -177,7 +177,7 @@ pub fn awaited(
             match es {
                 Ok(es) => Ok(CheckedAwaited::Until(most, es)),
                 Err(error) => {
-                    discard(most);
+                    drop(most);
                     Err(error)
                 }
             }

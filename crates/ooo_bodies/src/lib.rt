@@ -13,7 +13,7 @@ macro_rules! keeping {
         match $made {
             Ok(made) => made,
             Err(error) => {
-                $(crate::copies::discard($kept);)+
+                $(drop($kept);)+
                 return Err(error);
             }
         }

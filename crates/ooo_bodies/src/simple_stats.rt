@@ -7,7 +7,7 @@ ghost use Rattle.ooo_checked.specs.Stats.{assign_of, call_stat_of, member_stat_o
 ghost use Rattle.ooo_checked.specs.Stats.{simple_of, target_of, value_of};
 ghost use Rattle.ooo_bodies.specs.Noting.{noted};
 
-use crate::copies::{copy_text, copy_word, discard, resolve};
+use crate::copies::{copy_text, copy_word, resolve};
 use crate::events::{awaited, time};
 use crate::exprs::{boxed, expr, exprs, right_side};
 use crate::names::MemberCall;
@@ -131,7 +131,7 @@ fn assign(
     match value(alloc, is_compound, e, scopes, notes) {
         Ok(value) => Ok(CheckedSimple::Assign(to, op, value)),
         Err(error) => {
-            discard(to);
+            drop(to);
             Err(error)
         }
     }

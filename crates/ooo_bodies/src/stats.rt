@@ -7,7 +7,7 @@ ghost use Rattle.ooo_checked.specs.Stats.{option_notes, option_reading, option_s
 ghost use Rattle.ooo_checked.specs.Stats.{simple_of, stat_of, stats_of, step_of, while_of};
 ghost use Rattle.ooo_bodies.specs.Noting.{noted};
 
-use crate::copies::{copy_word, discard, kind_written};
+use crate::copies::{copy_word, kind_written};
 use crate::exprs::{boxed, right_side};
 use crate::notes::Notes;
 use crate::simple_stats::{boxed_option, boxed_simple, simple_stat};
@@ -81,7 +81,7 @@ fn declarator(
             Ok(CheckedDeclarator { name, value })
         }
         Err(error) => {
-            discard(value);
+            drop(value);
             Err(error)
         }
     }

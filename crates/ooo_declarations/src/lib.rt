@@ -11,7 +11,7 @@ macro_rules! keeping {
         match $read {
             Ok(found) => found,
             Err(error) => {
-                $(crate::keeping::discard($kept);)+
+                $(drop($kept);)+
                 return Err(error);
             }
         }
@@ -31,7 +31,6 @@ macro_rules! got {
 mod arguments;
 mod constants;
 mod constructors;
-mod keeping;
 mod main_entries;
 mod params;
 mod signs;

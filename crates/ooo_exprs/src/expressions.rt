@@ -6,7 +6,6 @@ ghost use Rattle.ooo_grammar.specs.Lexis.{long_after, named_type, plain_type};
 ghost use Rattle.ooo_grammar.specs.Gives.{Gives, reads_at};
 ghost use Rattle.ooo_exprs.specs.Levels.{expression_r, first_r, is_inside, item_step, level_at, op_levels, others_of};
 
-use crate::keeping::discard;
 use crate::signs::{
     begins_with_expression, begins_with_plain, begins_with_prefix, begins_with_short_type,
     begins_with_truth, op_of_level,
@@ -376,7 +375,7 @@ pub(crate) fn read_level<'a>(
             return Ok((left, rest));
         };
         if !signs.fit(token) {
-            discard(left);
+            drop(left);
             return Err(ReadError::TooDeep(rest.len()));
         }
         let (right, more) =

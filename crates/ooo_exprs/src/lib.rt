@@ -7,7 +7,7 @@ macro_rules! keeping {
         match $read {
             Ok(found) => found,
             Err(error) => {
-                $(crate::keeping::discard($kept);)+
+                $(drop($kept);)+
                 return Err(error);
             }
         }
@@ -25,7 +25,6 @@ macro_rules! got {
 }
 
 mod expressions;
-mod keeping;
 mod own;
 mod signs;
 

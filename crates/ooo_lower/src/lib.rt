@@ -7,7 +7,7 @@ macro_rules! keeping {
         match $made {
             Ok(found) => found,
             Err(error) => {
-                $(crate::keeping::discard($kept);)+
+                $(drop($kept);)+
                 return Err(error);
             }
         }
@@ -18,7 +18,6 @@ mod calls;
 mod code;
 mod designs;
 mod expressions;
-mod keeping;
 mod kinds_of_nodes;
 mod simples;
 mod splitting;

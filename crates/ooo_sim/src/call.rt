@@ -11,7 +11,6 @@ ghost use Rattle.ooo_sim.specs.declared.outcome.Outcome.TheVariants as outcome;
 ghost use Rattle.ooo_sim.specs.declared.request.Request.{Request as RequestSpec};
 ghost use Rattle.ooo_sim.specs.declared.request.Request.TheVariants as request;
 
-use crate::keeping::discard;
 use crate::law::one_reply;
 use crate::outcome::{Failure, Outcome, Refusal};
 use crate::pump::{ReadError, read_text, write_text};
@@ -64,7 +63,7 @@ pub fn alone<So: Source, Si: Sink>(
     match answer_alone(alloc, request, source) {
         Some(answer) => {
             let (outcome, board) = tell(sink, answer);
-            discard(board);
+            drop(board);
             Some(outcome)
         }
         None => None,

@@ -11,7 +11,7 @@ macro_rules! keeping {
         match $made {
             Ok(made) => made,
             Err(error) => {
-                $(crate::keeping::discard($kept);)+
+                $(drop($kept);)+
                 return Err(error);
             }
         }
@@ -20,7 +20,6 @@ macro_rules! keeping {
 
 mod call;
 mod counts;
-mod keeping;
 pub mod law;
 mod lines;
 mod outcome;

@@ -12,7 +12,6 @@ ghost use Rattle.ooo_sim.specs.Replies.{TellsRun};
 ghost use Rattle.ooo_sim.specs.declared.workers.RunError.TheVariants as run_error;
 ghost use Rattle.ooo_sim.specs.declared.request.Told.{Told as ToldSpec};
 
-use crate::keeping::discard;
 use crate::outcome::Refusal;
 use crate::reply::{Answer, Reply, accept, limits_of, refuse, stop_of};
 use crate::request::Told;
@@ -140,7 +139,7 @@ fn start(alloc: Global, text: &[u8], options: RunOptions) -> Result<ModelRun, Ru
     match stop_of(options.stop, &accepted.bound) {
         Some(stop) => Ok(first_board(alloc, accepted, limits_of(options, stop))?),
         None => {
-            discard(accepted);
+            drop(accepted);
             Err(RunError::Refused(Refusal::StopMissing))
         }
     }
@@ -193,7 +192,7 @@ fn once_over(run: ModelRun) -> Result<ModelRun, RunError>
     if run.board.is_over() {
         Ok(run)
     } else {
-        discard(run);
+        drop(run);
         Err(RunError::OutOfMemory)
     }
 }

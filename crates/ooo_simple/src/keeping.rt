@@ -4,9 +4,6 @@ ghost use Rattle.ooo_grammar.specs.Gives.{Gives, reads_at};
 use ooo_grammar::{Limits, Read, one};
 use ooo_syntax::{Symbol, Terminal};
 
-// Lets a value go.
-pub(crate) fn discard<T: Drop>(_value: T) {}
-
 /// Reads a token after what was found already, and hands that back.
 #[tactic(auto, using(ooo_grammar::specs::Steps::steps))]
 pub fn followed<'a, T: Drop>(

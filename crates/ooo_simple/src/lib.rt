@@ -10,7 +10,7 @@ macro_rules! keeping {
         match $read {
             Ok(found) => found,
             Err(error) => {
-                $(crate::keeping::discard($kept);)+
+                $(drop($kept);)+
                 return Err(error);
             }
         }

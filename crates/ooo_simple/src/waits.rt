@@ -3,7 +3,6 @@ ghost use Rattle.ooo_grammar.specs.Times.{after_amount, after_awaited, after_tim
 ghost use Rattle.ooo_grammar.specs.Gives.{Gives, reads_at};
 
 use crate::events::{read_events_inside, spelled_events};
-use crate::keeping::discard;
 use crate::signs::begins_with_named_time;
 use crate::times::{read_named_time_inside, read_unit_inside};
 use ooo_exprs::read_inner_value;
@@ -59,11 +58,11 @@ fn read_after_events<'a>(
     ensures { Gives (reads_at limits (after_awaited (Some list) first) tokens.now) result }
 {
     if starts(tokens, Terminal::Close) {
-        discard(first);
+        drop(first);
         let (_, rest) = keeping!(list; one(tokens, Terminal::Close, limits));
         return Ok((Awaited::Events(list), rest));
     }
-    discard(list);
+    drop(list);
     read_after_amount(alloc, first, tokens, limits)
 }
 
@@ -96,7 +95,7 @@ fn read_awaited_expression<'a>(
     match spelled_events(alloc, &first) {
         Ok(list) => read_after_awaited(alloc, list, first, rest, limits),
         Err(_) => {
-            discard(first);
+            drop(first);
             Err(ReadError::OutOfMemory)
         }
     }

@@ -6,7 +6,6 @@ ghost use Rattle.ooo_grammar.specs.Gives.{Gives, reads_at};
 ghost use Rattle.ooo_statements.specs.Loops.{next_stat};
 ghost use Rattle.ooo_statements.specs.Parts.{closed_do};
 
-use crate::keeping::discard;
 use crate::signs::begins_with_statement;
 use ooo_grammar::{Limits, Read, ReadError, begins_with_type, one, one_inside, starts};
 use ooo_lexer::Position;
@@ -380,7 +379,7 @@ fn read_for_body<'a>(
             Ok((Stat::For(at, start, test, step, inner), rest))
         }
         Err(_) => {
-            discard(parts);
+            drop(parts);
             Err(ReadError::OutOfMemory)
         }
     }

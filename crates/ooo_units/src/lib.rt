@@ -12,7 +12,7 @@ macro_rules! keeping {
         match $read {
             Ok(found) => found,
             Err(error) => {
-                $(crate::keeping::discard($kept);)+
+                $(drop($kept);)+
                 return Err(error);
             }
         }
@@ -29,7 +29,6 @@ macro_rules! got {
     };
 }
 
-mod keeping;
 mod members;
 mod signs;
 mod units;
