@@ -1,7 +1,17 @@
-use Rattle.std.proofs.Common.{List, rules}
+use Rattle.std.proofs.Common.{◌≡◌, ◌∙◌, ap, sym, refl, ℕ, List, Option, length, rules}
+use Rattle.std.proofs.lemmas.List.{length-map}
 use Rattle.ooo_syntax.specs.declared.expr.Expr.{Expr}
-use Rattle.ooo_checked.specs.Exprs.{expr_of}
-use Rattle.ooo_bodies.specs.Parts.{trees_step, notes_step}
+use Rattle.ooo_lexer.specs.declared.position.Position.{Position}
+use Rattle.ooo_checked.specs.declared.denotation.Denotation.{Denotation}
+use Rattle.ooo_checked.specs.declared.denotation.Method.{Method}
+use Rattle.ooo_checked.specs.declared.denotation.Thing.{Thing}
+use Rattle.ooo_checked.specs.declared.expr.CheckedExpr.{CheckedExpr}
+use Rattle.ooo_checked.specs.Exprs.{argument_notes, call_notes, count_of, expr_of, exprs_of, index_notes, member_notes, option_of}
+use Rattle.ooo_checked.specs.Notes.{Checked, Note, all_notes}
+use Rattle.ooo_checked.specs.Scopes.{Scope, meaning_of}
+use Rattle.ooo_checked.specs.Things.{method_of}
+use Rattle.ooo_bodies.specs.Noting.{noted}
+use Rattle.ooo_bodies.specs.Parts.{noted_two, trees_step, notes_step}
 use Rattle.ooo_bodies.proofs.Formed.{expr_of-Binary, expr_of-Call, expr_of-Cast, expr_of-Choose, expr_of-Conversion, expr_of-Index, expr_of-Member}
 use Rattle.ooo_bodies.proofs.Formed.{expr_of-Name, expr_of-Number, expr_of-Paren, expr_of-Prefix, expr_of-Truth, noted-Binary, noted-Choose}
 use Rattle.ooo_bodies.proofs.exprs.+expr.Goals as goal
@@ -137,3 +147,55 @@ exprs-args-2-preserved t c =
       notes = notes_step (λ e. expr_of e c.args.scopes.now) c.args.notes.now c.args-2.notes c.expr.new.notes xs c.args-2.e-index
           c.e-item.result c.args-2-test.true c.e-item.is c.in_ok-expr.ensures.notes c.args-2.invariant.notes;
     }
+
+pub indexed-returns-clause-tree : goal.indexed-returns-clause-tree
+indexed-returns-clause-tree t c =
+    rw (c.value_kind.ensures, c.denotes-thing.ensures, c.as_bytes.ensures, c.in_ok-resolve.ensures, c.in_ok-tree.ensures.tree) refl
+
+pub indexed-returns-clause-notes : goal.indexed-returns-clause-notes
+indexed-returns-clause-notes t c =
+    let thing : Thing = (meaning_of c.args.scopes.now c.args.word.now.name).thing in
+    c.in_ok-tree.ensures.notes
+    ∙ noted_two c.args.notes.now c.indexed.new.self (index_notes thing c.args.word.now.position) (expr_of c.args.index.now c.args.scopes.now).notes
+    (rw (c.denotes-thing.ensures, c.as_bytes.ensures) at c.indexed.ensures)
+
+pub call-returns-clause-tree : goal.call-returns-clause-tree
+call-returns-clause-tree t c =
+    rw (c.result_kind.ensures, c.denotes-denotes.ensures, c.as_bytes.ensures, c.in_ok-name.ensures, c.in_ok-trees.ensures.trees) refl
+
+pub call-returns-clause-notes : goal.call-returns-clause-notes
+call-returns-clause-notes t c =
+    let s : Scope = c.args.scopes.now in
+    let known : Denotation = meaning_of s c.args.word.now.name in
+    let of_call : Denotation → ℕ → List Note = λ d count. call_notes c.args.place d count c.args.word.now.position in
+    let denotes : c.denotes-denotes.result ≡ known = c.denotes-denotes.ensures ∙ ap (λ name. meaning_of s name) c.as_bytes.ensures in
+    let count : c.len.result ≡ length (exprs_of c.args.args.now s) = c.len.ensures ∙ sym (length-map c.args.args.now (λ e. expr_of e s)) in
+    c.in_ok-trees.ensures.notes
+    ∙ noted_two c.args.notes.now c.call.new.self (of_call known (length (exprs_of c.args.args.now s))) (all_notes (exprs_of c.args.args.now s))
+    (c.in_ok-call.ensures ∙ ap (λ d. noted c.args.notes.now (of_call d c.len.result)) denotes
+    ∙ ap (λ n. noted c.args.notes.now (of_call known n)) count)
+
+pub member-returns-clause-tree : goal.member-returns-clause-tree
+member-returns-clause-tree t c =
+    rw (
+      c.kind.ensures,
+      c.method-method.ensures,
+      c.as_bytes-2.ensures,
+      c.denotes-thing.ensures,
+      c.as_bytes.ensures,
+      c.in_ok-name.ensures,
+      c.in_ok-after.ensures,
+      c.in_ok-tree.ensures.tree,
+    ) refl
+
+pub member-returns-clause-notes : goal.member-returns-clause-notes
+member-returns-clause-notes t c =
+    let s : Scope = c.args.scopes.now in
+    let thing : Thing = (meaning_of s c.args.call.word.now.name).thing in
+    let method : Method = method_of thing c.args.call.after.now.name in
+    let at : Position = c.args.call.word.now.position in
+    let dot : Position = c.args.call.after.now.position in
+    let arg : Option (Checked CheckedExpr) = option_of c.args.arg.now s in
+    (rw (c.method-method.ensures, c.as_bytes-2.ensures, c.denotes-thing.ensures, c.as_bytes.ensures) at c.in_ok-tree.ensures.notes)
+    ∙ noted_two c.args.notes.now c.member.new.self (member_notes c.args.call.place thing method (count_of arg) at dot) (argument_notes method arg)
+    (rw (c.argument_count-count.ensures s, c.method-method.ensures, c.as_bytes-2.ensures, c.denotes-thing.ensures, c.as_bytes.ensures) at c.in_ok-member.ensures)

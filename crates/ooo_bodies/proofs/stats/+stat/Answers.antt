@@ -1,4 +1,4 @@
-use Rattle.std.proofs.Common.{◌∙◌, ap, List, Option}
+use Rattle.std.proofs.Common.{◌∙◌, ap, refl, rules, List, Option}
 use Rattle.ooo_syntax.specs.declared.stat.ForStart.{ForStart}
 use Rattle.ooo_syntax.specs.declared.stat.Stat.{Stat}
 use Rattle.ooo_checked.specs.declared.stat.CheckedStat.{CheckedStat}
@@ -7,7 +7,8 @@ use Rattle.ooo_checked.specs.Exprs.{expr_of}
 use Rattle.ooo_checked.specs.Scopes.{Scope, entered}
 use Rattle.ooo_checked.specs.Stats.{Stepped, head_notes, inner, looped, option_start_of, stat_of, stats_of}
 use Rattle.ooo_bodies.specs.Noting.{noted}
-use Rattle.ooo_bodies.proofs.Blocks.{stat_of-Block, noted-If}
+use Rattle.ooo_bodies.proofs.Blocks.{stat_of-Block, stat_of-Break, stat_of-Continue, stat_of-Do, stat_of-Empty, stat_of-For, stat_of-If}
+use Rattle.ooo_bodies.proofs.Blocks.{stat_of-Local, stat_of-Return, stat_of-Simple, stat_of-While, noted-If}
 use Rattle.ooo_bodies.specs.Parts.{noted_two, ordered_trees, ordered_scope, ordered_notes}
 use Rattle.ooo_bodies.proofs.stats.+stat.Goals as goal
 
@@ -72,3 +73,148 @@ for_stat-returns-clause-notes t c =
     ∙ noted_two c.args.notes.now c.for_head.new.notes (head_notes c.args.context begins c.args.head.test.now c.args.head.after.now s)
     (inner (stat_of c.args.body.now) (looped c.args.context) behind).notes
     (rw c.in_ok-enter.ensures.ok at c.in_ok-made.ensures.notes)
+
+pub stat-returns-in-Empty-clause-tree : goal.stat-returns-in-Empty-clause-tree
+stat-returns-in-Empty-clause-tree t c =
+    rw (c.in-Empty.is, stat_of-Empty c.args.context c.args.scopes.now c.in-Empty.at) refl
+
+pub stat-returns-in-Empty-clause-scope : goal.stat-returns-in-Empty-clause-scope
+stat-returns-in-Empty-clause-scope t c =
+    rw (c.in-Empty.is, stat_of-Empty c.args.context c.args.scopes.now c.in-Empty.at) refl
+
+pub stat-returns-in-Empty-clause-notes : goal.stat-returns-in-Empty-clause-notes
+stat-returns-in-Empty-clause-notes t c =
+    rw (c.in-Empty.is, stat_of-Empty c.args.context c.args.scopes.now c.in-Empty.at) refl
+
+pub stat-returns-in-Break-clause-tree : goal.stat-returns-in-Break-clause-tree
+stat-returns-in-Break-clause-tree t c =
+    rw (c.in-Break.is, stat_of-Break c.args.context c.args.scopes.now c.in-Break.at) refl
+
+pub stat-returns-in-Break-clause-scope : goal.stat-returns-in-Break-clause-scope
+stat-returns-in-Break-clause-scope t c =
+    rw (c.in-Break.is, stat_of-Break c.args.context c.args.scopes.now c.in-Break.at) refl
+
+pub stat-returns-in-Break-clause-notes : goal.stat-returns-in-Break-clause-notes
+stat-returns-in-Break-clause-notes t c =
+    rw (c.in-Break.is, stat_of-Break c.args.context c.args.scopes.now c.in-Break.at) c.leaves_loop.ensures
+
+pub stat-returns-in-Continue-clause-tree : goal.stat-returns-in-Continue-clause-tree
+stat-returns-in-Continue-clause-tree t c =
+    rw (c.in-Continue.is, stat_of-Continue c.args.context c.args.scopes.now c.in-Continue.at) refl
+
+pub stat-returns-in-Continue-clause-scope : goal.stat-returns-in-Continue-clause-scope
+stat-returns-in-Continue-clause-scope t c =
+    rw (c.in-Continue.is, stat_of-Continue c.args.context c.args.scopes.now c.in-Continue.at) refl
+
+pub stat-returns-in-Continue-clause-notes : goal.stat-returns-in-Continue-clause-notes
+stat-returns-in-Continue-clause-notes t c =
+    rw (c.in-Continue.is, stat_of-Continue c.args.context c.args.scopes.now c.in-Continue.at) c.leaves_loop-in-Continue.ensures
+
+pub stat-returns-in-Local-clause-tree : goal.stat-returns-in-Local-clause-tree
+stat-returns-in-Local-clause-tree t c =
+    rw (c.in-Local.is, stat_of-Local c.args.context c.args.scopes.now c.in-Local.names)
+    (rw c.get.ensures at c.local_stat.ensures.tree)
+
+pub stat-returns-in-Local-clause-scope : goal.stat-returns-in-Local-clause-scope
+stat-returns-in-Local-clause-scope t c =
+    rw (c.in-Local.is, stat_of-Local c.args.context c.args.scopes.now c.in-Local.names)
+    (rw c.get.ensures at c.local_stat.ensures.scope)
+
+pub stat-returns-in-Local-clause-notes : goal.stat-returns-in-Local-clause-notes
+stat-returns-in-Local-clause-notes t c =
+    rw (c.in-Local.is, stat_of-Local c.args.context c.args.scopes.now c.in-Local.names)
+    (rw c.get.ensures at c.local_stat.ensures.notes)
+
+pub stat-returns-in-Simple-clause-tree : goal.stat-returns-in-Simple-clause-tree
+stat-returns-in-Simple-clause-tree t c =
+    rw (c.in-Simple.is, stat_of-Simple c.args.context c.args.scopes.now c.in-Simple.statement)
+    (rw c.get-in-Simple.ensures at c.plain_stat.ensures.tree)
+
+pub stat-returns-in-Simple-clause-notes : goal.stat-returns-in-Simple-clause-notes
+stat-returns-in-Simple-clause-notes t c =
+    rw (c.in-Simple.is, stat_of-Simple c.args.context c.args.scopes.now c.in-Simple.statement)
+    (rw c.get-in-Simple.ensures at c.plain_stat.ensures.notes)
+
+pub stat-returns-in-While-clause-tree : goal.stat-returns-in-While-clause-tree
+stat-returns-in-While-clause-tree t c =
+    rw (c.in-While.is, stat_of-While c.args.context c.args.scopes.now c.in-While.at c.in-While.test c.in-While.body)
+    (rw c.get-in-While.ensures at c.while_stat.ensures.tree)
+
+pub stat-returns-in-While-clause-scope : goal.stat-returns-in-While-clause-scope
+stat-returns-in-While-clause-scope t c =
+    rw (c.in-While.is, stat_of-While c.args.context c.args.scopes.now c.in-While.at c.in-While.test c.in-While.body)
+    (rw c.get-in-While.ensures at c.while_stat.ensures.scope)
+
+pub stat-returns-in-While-clause-notes : goal.stat-returns-in-While-clause-notes
+stat-returns-in-While-clause-notes t c =
+    rw (c.in-While.is, stat_of-While c.args.context c.args.scopes.now c.in-While.at c.in-While.test c.in-While.body)
+    (rw c.get-in-While.ensures at c.while_stat.ensures.notes)
+
+pub stat-returns-in-Do-clause-tree : goal.stat-returns-in-Do-clause-tree
+stat-returns-in-Do-clause-tree t c =
+    rw (c.in-Do.is, stat_of-Do c.args.context c.args.scopes.now c.in-Do.at c.in-Do.body c.in-Do.test)
+    (rw c.get-in-Do.ensures at c.do_stat.ensures.tree)
+
+pub stat-returns-in-Do-clause-scope : goal.stat-returns-in-Do-clause-scope
+stat-returns-in-Do-clause-scope t c =
+    rw (c.in-Do.is, stat_of-Do c.args.context c.args.scopes.now c.in-Do.at c.in-Do.body c.in-Do.test)
+    (rw c.get-in-Do.ensures at c.do_stat.ensures.scope)
+
+pub stat-returns-in-Do-clause-notes : goal.stat-returns-in-Do-clause-notes
+stat-returns-in-Do-clause-notes t c =
+    rw (c.in-Do.is, stat_of-Do c.args.context c.args.scopes.now c.in-Do.at c.in-Do.body c.in-Do.test)
+    (rw c.get-in-Do.ensures at c.do_stat.ensures.notes)
+
+pub stat-returns-in-For-clause-tree : goal.stat-returns-in-For-clause-tree
+stat-returns-in-For-clause-tree t c =
+    rw (c.in-For.is, stat_of-For c.args.context c.args.scopes.now c.in-For.at c.in-For.begins c.in-For.test c.in-For.after c.in-For.body)
+    (rw c.get-in-For.ensures at c.for_stat.ensures.tree)
+
+pub stat-returns-in-For-clause-scope : goal.stat-returns-in-For-clause-scope
+stat-returns-in-For-clause-scope t c =
+    rw (c.in-For.is, stat_of-For c.args.context c.args.scopes.now c.in-For.at c.in-For.begins c.in-For.test c.in-For.after c.in-For.body)
+    (rw c.get-in-For.ensures at c.for_stat.ensures.scope)
+
+pub stat-returns-in-For-clause-notes : goal.stat-returns-in-For-clause-notes
+stat-returns-in-For-clause-notes t c =
+    rw (c.in-For.is, stat_of-For c.args.context c.args.scopes.now c.in-For.at c.in-For.begins c.in-For.test c.in-For.after c.in-For.body)
+    (rw c.get-in-For.ensures at c.for_stat.ensures.notes)
+
+pub stat-returns-in-Return-clause-tree : goal.stat-returns-in-Return-clause-tree
+stat-returns-in-Return-clause-tree t c =
+    rw (c.in-Return.is, stat_of-Return c.args.context c.args.scopes.now c.in-Return.at c.in-Return.value) c.return_stat.ensures.tree
+
+pub stat-returns-in-Return-clause-notes : goal.stat-returns-in-Return-clause-notes
+stat-returns-in-Return-clause-notes t c =
+    rw (c.in-Return.is, stat_of-Return c.args.context c.args.scopes.now c.in-Return.at c.in-Return.value) c.return_stat.ensures.notes
+
+pub stat-returns-in-Simple-clause-scope : goal.stat-returns-in-Simple-clause-scope
+stat-returns-in-Simple-clause-scope t c =
+    rw (c.in-Simple.is, stat_of-Simple c.args.context c.args.scopes.now c.in-Simple.statement) (search rules)
+
+pub stat-returns-in-Return-clause-scope : goal.stat-returns-in-Return-clause-scope
+stat-returns-in-Return-clause-scope t c =
+    rw (c.in-Return.is, stat_of-Return c.args.context c.args.scopes.now c.in-Return.at c.in-Return.value) (search rules)
+
+pub stat-returns-in_ok-no-in-If-clause-tree : goal.stat-returns-in_ok-no-in-If-clause-tree
+stat-returns-in_ok-no-in-If-clause-tree t c =
+    rw (
+      c.in-If.is,
+      stat_of-If c.args.context c.args.scopes.now c.in-If.at c.in-If.test c.in-If.yes c.in-If.no,
+      c.in_ok-test-in-If.ensures.tree,
+      c.get-condition.ensures,
+      c.in_ok-yes-in-If.ensures.tree,
+      c.in_ok-no-in-If.ensures.tree,
+      c.in_ok-yes-in-If.ensures.scope,
+      c.get-first.ensures,
+    ) refl
+
+pub stat-returns-in_ok-no-in-If-clause-scope : goal.stat-returns-in_ok-no-in-If-clause-scope
+stat-returns-in_ok-no-in-If-clause-scope t c =
+    rw (
+      c.in-If.is,
+      stat_of-If c.args.context c.args.scopes.now c.in-If.at c.in-If.test c.in-If.yes c.in-If.no,
+      c.in_ok-no-in-If.ensures.scope,
+      c.in_ok-yes-in-If.ensures.scope,
+      c.get-first.ensures,
+    ) refl
