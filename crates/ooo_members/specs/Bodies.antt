@@ -1,5 +1,5 @@
 -- The parameters and the body of a function.
-use Rattle.std.specs.Prelude.{ℕ, List, [], ◌∷◌, ◌++◌, false}
+use Rattle.std.specs.Prelude.{ℕ, List, ◌++◌, false}
 use Rattle.ooo_syntax.specs.declared.module.Param.{Param}
 use Rattle.ooo_syntax.specs.declared.module.Function.{Function}
 use Rattle.ooo_checked.specs.declared.context.Context.{Context}

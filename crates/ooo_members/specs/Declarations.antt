@@ -1,9 +1,8 @@
 -- The names that a module and its members declare, and the things that they name.
-use Rattle.std.specs.Prelude.{ℕ, ◌-◌, List, [], ◌∷◌, ◌++◌, length, Bool, true, false, Option, Some, None, if◌then◌else◌}
+use Rattle.std.specs.Prelude.{ℕ, ◌-◌, List, [], ◌∷◌, length, Bool, true, false, Option, Some, None, if◌then◌else◌}
 use Rattle.ooo_value.specs.declared.kinds.Kind.{Kind}
 use Rattle.ooo_value.specs.declared.kinds.Kind.TheVariants as kind
 use Rattle.ooo_syntax.specs.declared.leaves.Word.{Word}
-use Rattle.ooo_syntax.specs.declared.module.Field.{Field}
 use Rattle.ooo_syntax.specs.declared.module.FieldForm.{FieldForm}
 use Rattle.ooo_syntax.specs.declared.module.FieldForm.TheVariants as field
 use Rattle.ooo_syntax.specs.declared.module.Fields.{Fields}

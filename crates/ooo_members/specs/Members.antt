@@ -1,5 +1,5 @@
 -- The members of a module: what their names denote, and what is wrong with them.
-use Rattle.std.specs.Prelude.{ℕ, ◌==◌, List, [], ◌∷◌, ◌++◌, map, Bool, true, false, not, ◌&&◌, Option, Some, None, is_some}
+use Rattle.std.specs.Prelude.{ℕ, ◌==◌, List, [], ◌∷◌, ◌++◌, map, Bool, false, not, ◌&&◌, Option, Some, None, is_some}
 use Rattle.std.specs.Str.{bytes_eq}
 use Rattle.ooo_syntax.specs.declared.leaves.Word.{Word}
 use Rattle.ooo_syntax.specs.declared.module.Arg.{Arg}
@@ -13,6 +13,7 @@ use Rattle.ooo_syntax.specs.declared.module.Channels.{Channels}
 use Rattle.ooo_syntax.specs.declared.module.Children.{Children}
 use Rattle.ooo_syntax.specs.declared.module.Member.{Member}
 use Rattle.ooo_syntax.specs.declared.module.Member.TheVariants as member
+use Rattle.ooo_syntax.specs.declared.module.Ports.{Ports}
 use Rattle.ooo_checked.specs.declared.breach.TypeBreach.TheVariants as what
 use Rattle.ooo_checked.specs.declared.denotation.Thing.{Thing}
 use Rattle.ooo_checked.specs.declared.denotation.Thing.TheVariants as thing
@@ -28,6 +29,7 @@ use Rattle.ooo_checked.specs.declared.module.CheckedChannels.{CheckedChannels}
 use Rattle.ooo_checked.specs.declared.module.CheckedChildren.{CheckedChildren}
 use Rattle.ooo_checked.specs.declared.module.CheckedMember.{CheckedMember}
 use Rattle.ooo_checked.specs.declared.module.CheckedMember.TheVariants as checked
+use Rattle.ooo_checked.specs.declared.module.CheckedPorts.{CheckedPorts}
 use Rattle.ooo_checked.specs.Exprs.{kind_written, name_notes, resolved}
 use Rattle.ooo_checked.specs.Notes.{Note, Checked, breach_when, trees, all_notes}
 use Rattle.ooo_checked.specs.Scopes.{Scope, is_declared_here}
@@ -73,6 +75,10 @@ fields_of f s =
 -- names with what they denote
 abbrev pub names_of : List Word → Scope → List Resolved
 names_of ws s = map (λ w. resolved s w) ws
+
+-- a declaration of ports
+abbrev pub ports_of : Ports → Scope → CheckedPorts
+ports_of p s = record { port = p.port; form = p.form; names = names_of p.names s }
 
 -- ---- channels and children
 
@@ -156,10 +162,8 @@ member_of ms module_name initialised s (member.HasProcess w) before = passes (re
 }) before
 member_of ms module_name initialised s (member.Fields f) before =
     passes (record { tree = checked.Fields (fields_of f s).tree; notes = (fields_of f s).notes }) before
-member_of ms module_name initialised s (member.Ports p) before = passes (record {
-  tree = checked.Ports (record { port = p.port; form = p.form; names = names_of p.names s });
-  notes = [];
-}) before
+member_of ms module_name initialised s (member.Ports p) before =
+    passes (record { tree = checked.Ports (ports_of p s); notes = [] }) before
 member_of ms module_name initialised s (member.Clocks ws) before =
     passes (record { tree = checked.Clocks (names_of ws s); notes = [] }) before
 member_of ms module_name initialised s (member.Channels c) before =

@@ -6,7 +6,7 @@ ghost use Rattle.ooo_bodies.specs.Noting.{noted};
 ghost use Rattle.ooo_members.specs.Members.{channels_of, child_of, children_of, constant_named, field_form_of, field_of};
 ghost use Rattle.ooo_members.specs.Members.{fields_of, functions_in, functions_of, has_params, lacks_arguments, member_of};
 ghost use Rattle.ooo_members.specs.Members.{members_of, names_of, option_args, params_of_module, part_notes, part_of};
-ghost use Rattle.ooo_members.specs.Members.{parts_of};
+ghost use Rattle.ooo_members.specs.Members.{parts_of, ports_of};
 
 use crate::args::{args, constant, is_form_of};
 use crate::bodies::known_function;
@@ -19,7 +19,9 @@ use ooo_checked::{
     CheckedFields, CheckedMember, CheckedPart, CheckedPorts, Resolved, Thing, TypeBreach,
 };
 use ooo_scopes::Scopes;
-use ooo_syntax::{Arg, Channels, Children, Constant, Field, FieldForm, Fields, Member, Part, Word};
+use ooo_syntax::{
+    Arg, Channels, Children, Constant, Field, FieldForm, Fields, Member, Part, Ports, Word,
+};
 use sqlite_items::Items;
 use std::alloc::{AllocError, Global};
 
@@ -46,6 +48,17 @@ pub fn constant_named(
         form: declared.form,
         name,
         value,
+    })
+}
+
+// Ports, with what their names denote.
+fn ports(alloc: Global, declared: &Ports, scopes: &Scopes) -> Result<CheckedPorts, AllocError>
+    ensures { IfOk result (λ p. p ≡ ports_of declared.now scopes.now) }
+{
+    Ok(CheckedPorts {
+        port: declared.port,
+        form: declared.form,
+        names: names(alloc, &declared.names, scopes)?,
     })
 }
 
@@ -332,9 +345,6 @@ fn children(
     Ok(CheckedChildren { module_name, parts })
 }
 
-// Lets a value go.
-fn discard<T: Drop>(_value: T) {}
-
 /// The same items, the last one first.
 ///
 /// # Errors
@@ -349,6 +359,16 @@ pub fn reversed<T: Drop>(alloc: Global, items: Items<T>) -> Result<Items<T>, All
         all.push(item)?;
     }
     Ok(all)
+}
+
+// What was made of a member's parts, as a member of that form.
+macro_rules! as_member {
+    ($form:ident; $made:expr) => {
+        match $made {
+            Ok(made) => Ok(CheckedMember::$form(made)),
+            Err(error) => Err(error),
+        }
+    };
 }
 
 impl Surroundings<'_> {
@@ -384,40 +404,26 @@ impl Surroundings<'_> {
             Member::Public => Ok(CheckedMember::Public),
             Member::Constant(c) => {
                 let name = resolve(alloc, scopes, &c.name)?;
-                let c = constant_named(alloc, name, c, scopes, notes)?;
-                Ok(CheckedMember::Constant(c))
+                as_member!(Constant; constant_named(alloc, name, c, scopes, notes))
             }
             Member::HasProcess(word) => {
                 let is_named_so = word.name.as_bytes() == self.module_name;
                 notes.breaks_when(!is_named_so, TypeBreach::WrongKind, word.position);
-                Ok(CheckedMember::HasProcess(copy_word(alloc, word)?))
+                as_member!(HasProcess; copy_word(alloc, word))
             }
-            Member::Fields(f) => {
-                let f = fields(alloc, f, scopes, notes)?;
-                Ok(CheckedMember::Fields(f))
-            }
-            Member::Ports(p) => Ok(CheckedMember::Ports(CheckedPorts {
-                port: p.port,
-                form: p.form,
-                names: names(alloc, &p.names, scopes)?,
-            })),
-            Member::Clocks(words) => Ok(CheckedMember::Clocks(names(alloc, words, scopes)?)),
-            Member::Channels(c) => {
-                let c = channels(alloc, c, scopes, notes)?;
-                Ok(CheckedMember::Channels(c))
-            }
-            Member::Events(words) => Ok(CheckedMember::Events(names(alloc, words, scopes)?)),
+            Member::Fields(f) => as_member!(Fields; fields(alloc, f, scopes, notes)),
+            Member::Ports(p) => as_member!(Ports; ports(alloc, p, scopes)),
+            Member::Clocks(words) => as_member!(Clocks; names(alloc, words, scopes)),
+            Member::Channels(c) => as_member!(Channels; channels(alloc, c, scopes, notes)),
+            Member::Events(words) => as_member!(Events; names(alloc, words, scopes)),
             Member::Children(c) => {
-                let c = children(alloc, self.initialised, c, scopes, notes)?;
-                Ok(CheckedMember::Children(c))
+                as_member!(Children; children(alloc, self.initialised, c, scopes, notes))
             }
             Member::Function(f) => {
-                let f = known_function(alloc, f, scopes, functions, notes)?;
-                Ok(CheckedMember::Function(f))
+                as_member!(Function; known_function(alloc, f, scopes, functions, notes))
             }
             Member::Constructor(c) => {
-                let c = self.constructor(c, scopes, sofar, notes)?;
-                Ok(CheckedMember::Constructor(c))
+                as_member!(Constructor; self.constructor(c, scopes, sofar, notes))
             }
         }
     }
@@ -445,7 +451,7 @@ impl Surroundings<'_> {
             ≡ functions.old ++ functions_in declared scopes.old) }
     {
         let made = self.member(&declared, scopes, sofar, functions, notes);
-        discard(declared);
+        drop(declared);
         made
     }
 

@@ -1,4 +1,4 @@
-use Rattle.std.proofs.Common.{◌≡◌, ◌∙◌, ap, List}
+use Rattle.std.proofs.Common.{◌≡◌, ◌∙◌, List}
 use Rattle.ooo_syntax.specs.declared.module.Member.{Member}
 use Rattle.ooo_checked.specs.declared.denotation.Resolved.{Resolved}
 use Rattle.ooo_checked.specs.Scopes.{Scope}

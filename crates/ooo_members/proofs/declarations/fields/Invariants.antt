@@ -1,11 +1,11 @@
-use Rattle.std.proofs.Common.{◌≡◌, drop, List}
+use Rattle.std.proofs.Common.{◌≡◌, drop}
 use Rattle.ooo_syntax.specs.declared.module.Field.{Field}
 use Rattle.ooo_checked.specs.declared.denotation.Resolved.{Resolved}
 use Rattle.ooo_checked.specs.Exprs.{kind_written}
 use Rattle.ooo_checked.specs.Scopes.{Scope, left}
 use Rattle.ooo_checked.specs.Stats.{Stepped, in_order}
 use Rattle.ooo_bodies.specs.Noting.{noted}
-use Rattle.ooo_members.specs.Declarations.{field_thing, fields_of, name_of}
+use Rattle.ooo_members.specs.Declarations.{field_thing, name_of}
 use Rattle.ooo_members.proofs.declarations.fields.Given as goal
 
 abbrev pub invariant-parts : goal.invariant-parts

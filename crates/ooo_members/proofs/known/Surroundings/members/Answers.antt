@@ -4,7 +4,6 @@ use Rattle.ooo_syntax.specs.declared.module.Member.{Member}
 use Rattle.ooo_checked.specs.declared.module.CheckedMember.{CheckedMember}
 use Rattle.ooo_checked.specs.Scopes.{Scope}
 use Rattle.ooo_bodies.specs.Noting.{noted}
-use Rattle.ooo_members.specs.declared.known.FunctionFacts.{FunctionFacts}
 use Rattle.ooo_members.specs.declared.known.Sofar.{Sofar}
 use Rattle.ooo_members.specs.Members.{functions_in, functions_of, member_of, members_of}
 use Rattle.ooo_members.specs.Turns.{Turn, taken_trees, taken_behind, taken_notes}
