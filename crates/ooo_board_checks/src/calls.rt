@@ -27,6 +27,16 @@ fn has_made(trial: &Trial, steps: &[Step]) -> bool {
             .all(|(one, other)| is_same(*one, *other))
 }
 
+// Three jobs, each committed before the next one is dispatched.
+const ONE_AFTER_ANOTHER: [Step; 6] = [
+    Dispatch(0),
+    Commit(0),
+    Dispatch(1),
+    Commit(1),
+    Dispatch(1),
+    Commit(1),
+];
+
 // A job is out from its dispatch to its commit, and its process isn't dispatched again before.
 #[test]
 fn a_job_is_out_until_its_commit(rt: HostRuntime) -> Result<(), Fail> {
@@ -66,15 +76,7 @@ fn a_job_is_out_until_its_commit(rt: HostRuntime) -> Result<(), Fail> {
     let mut trial = Trial::make(alloc, &sample)?;
     let wrong = first_wrong(alloc, &mut trial, &lines)?;
     assert_eq!(rt; wrong, None);
-    let steps = [
-        Dispatch(0),
-        Commit(0),
-        Dispatch(1),
-        Commit(1),
-        Dispatch(1),
-        Commit(1),
-    ];
-    assert!(rt; has_made(&trial, &steps));
+    assert!(rt; has_made(&trial, &ONE_AFTER_ANOTHER));
     Ok(())
 }
 
