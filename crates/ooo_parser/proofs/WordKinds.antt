@@ -8,7 +8,7 @@ use Rattle.std.proofs.lemmas.List.Sums.{AllPass-from_list_all}
 use Rattle.ooo_lexer.specs.declared.token.TokenKind.TheVariants as kind
 use Rattle.ooo_lexer.specs.Forms as forms
 use Rattle.ooo_syntax.specs.declared.terminal.Terminal.TheVariants as terminal
-use Rattle.ooo_syntax.specs.Words.{Written, words, signs, written_as, or_else, terminal_of}
+use Rattle.ooo_syntax.specs.Words.{Written, short_words, middle_words, long_words, words, signs, written_as, or_else, terminal_of}
 use Rattle.ooo_parser.specs.Classes.{is_word}
 use Rattle.ooo_parser.specs.SymbolLaws.{WordsAreWords}
 
@@ -21,7 +21,7 @@ written_word (w ∷ ws) bs e = at (bytes_eq w.bytes bs) (and_parts (is_word w.te
     at false h others = others
 
 words_are : list_all (λ w. is_word w.terminal) words ≡ true
-unfolding words
+unfolding short_words middle_words long_words
 words_are = refl
 
 signs_are : list_all (λ bs. not (is_word (terminal_of kind.Sign bs))) forms.signs ≡ true

@@ -1,5 +1,5 @@
 -- The words and signs of the grammar, and the words that no name may be (IEEE 1666-2011 and ISO/IEC 14882, [lex.key]). Each table is in the order of length.
-use Rattle.std.specs.Prelude.{ℕ, Bool, true, false, not, if◌then◌else◌, List, [], ◌∷◌, Option, Some, None, codes}
+use Rattle.std.specs.Prelude.{ℕ, Bool, true, false, not, if◌then◌else◌, List, [], ◌∷◌, ◌++◌, Option, Some, None, codes}
 use Rattle.std.specs.Str.{bytes_eq}
 use Rattle.ooo_lexer.specs.declared.token.TokenKind.{TokenKind}
 use Rattle.ooo_lexer.specs.declared.token.TokenKind.TheVariants as kind
@@ -14,9 +14,9 @@ pub record Written : Type 0 where
 abbrev pub as_is : List ℕ → Terminal → Written
 as_is bs t = record { bytes = bs; terminal = t }
 
--- the words of the grammar, and as `Outside` those that C++ or SystemC has and the grammar hasn't
-unfoldable pub words : List Written
-words =
+-- the words of at most five letters
+unfoldable pub short_words : List Written
+short_words =
     as_is (codes "do") terminal.Do ∷
     as_is (codes "if") terminal.If ∷
     as_is (codes "for") terminal.For ∷
@@ -58,6 +58,11 @@ words =
     as_is (codes "union") terminal.Outside ∷
     as_is (codes "using") terminal.Using ∷
     as_is (codes "while") terminal.While ∷
+    []
+
+-- those of six to eight
+unfoldable pub middle_words : List Written
+middle_words =
     as_is (codes "SC_SEC") terminal.ScSec ∷
     as_is (codes "cancel") terminal.Cancel ∷
     as_is (codes "delete") terminal.Outside ∷
@@ -101,6 +106,11 @@ words =
     as_is (codes "template") terminal.Outside ∷
     as_is (codes "unsigned") terminal.Unsigned ∷
     as_is (codes "volatile") terminal.Outside ∷
+    []
+
+-- those of nine or more
+unfoldable pub long_words : List Written
+long_words =
     as_is (codes "SC_METHOD") terminal.ScMethod ∷
     as_is (codes "SC_MODULE") terminal.ScModule ∷
     as_is (codes "SC_THREAD") terminal.ScThread ∷
@@ -131,6 +141,10 @@ words =
     as_is (codes "SC_UNCHECKED_WRITERS") terminal.Outside ∷
     as_is (codes "sc_set_time_resolution") terminal.Outside ∷
     []
+
+-- the words of the grammar, and as `Outside` those that C++ or SystemC has and the grammar hasn't
+abbrev pub words : List Written
+words = short_words ++ middle_words ++ long_words
 
 -- the signs
 unfoldable pub signs : List Written

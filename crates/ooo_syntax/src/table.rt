@@ -7,8 +7,8 @@ pub(crate) struct Row {
     pub(crate) terminal: Terminal,
 }
 
-/// The words of the grammar and those outside it, by their length.
-pub(crate) const WORDS: [&[Row]; 23] = [
+/// The words of the grammar and those outside it of at most five letters, by their length.
+pub(crate) const SHORT_WORDS: [&[Row]; 6] = [
     &[],
     &[],
     &[
@@ -183,6 +183,10 @@ pub(crate) const WORDS: [&[Row]; 23] = [
             terminal: Terminal::While,
         },
     ],
+];
+
+/// Those of six to eight.
+pub(crate) const MIDDLE_WORDS: [&[Row]; 3] = [
     &[
         Row {
             bytes: b"SC_SEC",
@@ -361,6 +365,10 @@ pub(crate) const WORDS: [&[Row]; 23] = [
             terminal: Terminal::Outside,
         },
     ],
+];
+
+/// Those of nine or more.
+pub(crate) const LONG_WORDS: [&[Row]; 14] = [
     &[
         Row {
             bytes: b"SC_METHOD",

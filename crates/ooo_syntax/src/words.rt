@@ -1,9 +1,10 @@
 ghost use Rattle.std.specs.Prelude.{◌≡◌, find, true, IfSome};
 ghost use Rattle.std.specs.Option.{option_copied};
 ghost use Rattle.ooo_syntax.specs.Rows.{are_by_length, has_bytes, in_rows, written_groups};
-ghost use Rattle.ooo_syntax.specs.Words.{is_reserved, only_follows_dot, signs, terminal_of, words, written_as};
+ghost use Rattle.ooo_syntax.specs.Words.{is_reserved, long_words, middle_words, only_follows_dot, short_words};
+ghost use Rattle.ooo_syntax.specs.Words.{signs, terminal_of, words, written_as};
 
-use crate::table::{Row, SIGNS, WORDS};
+use crate::table::{LONG_WORDS, MIDDLE_WORDS, Row, SHORT_WORDS, SIGNS};
 use crate::terminal::Terminal;
 use ooo_lexer::TokenKind;
 use sqlite_items::at;
@@ -41,11 +42,38 @@ fn only_follows_dot(terminal: Terminal) -> bool
     )
 }
 
-#[tactic(auto, unfolding(crate::specs::Words::words))]
+// The words are in three tables, since the proof of what reads a table takes a time that goes by the square of its rows.
 fn word(bytes: &[u8]) -> Option<Terminal>
     ensures { result ≡ written_as words bytes.now }
 {
-    in_groups(&WORDS, bytes)
+    if let Some(terminal) = short_word(bytes) {
+        return Some(terminal);
+    }
+    if let Some(terminal) = middle_word(bytes) {
+        return Some(terminal);
+    }
+    long_word(bytes)
+}
+
+#[tactic(auto, unfolding(crate::specs::Words::short_words))]
+fn short_word(bytes: &[u8]) -> Option<Terminal>
+    ensures { result ≡ written_as short_words bytes.now }
+{
+    in_groups(0, &SHORT_WORDS, bytes)
+}
+
+#[tactic(auto, unfolding(crate::specs::Words::middle_words))]
+fn middle_word(bytes: &[u8]) -> Option<Terminal>
+    ensures { result ≡ written_as middle_words bytes.now }
+{
+    in_groups(6, &MIDDLE_WORDS, bytes)
+}
+
+#[tactic(auto, unfolding(crate::specs::Words::long_words))]
+fn long_word(bytes: &[u8]) -> Option<Terminal>
+    ensures { result ≡ written_as long_words bytes.now }
+{
+    in_groups(9, &LONG_WORDS, bytes)
 }
 
 #[tactic(auto, unfolding(crate::specs::Words::signs))]
@@ -55,7 +83,7 @@ fn sign(bytes: &[u8]) -> Option<Terminal>
 {
     match common_sign(bytes) {
         Some(terminal) => Some(terminal),
-        None => in_groups(&SIGNS, bytes),
+        None => in_groups(0, &SIGNS, bytes),
     }
 }
 
@@ -78,13 +106,16 @@ fn common_sign(bytes: &[u8]) -> Option<Terminal>
     }
 }
 
-// What the row with these bytes says, of those in the group of their length.
+// What the row with these bytes says, of those in the group of their length; the first group has rows of `shortest` bytes.
 #[inline(never)]
-fn in_groups(groups: &[&[Row]], bytes: &[u8]) -> Option<Terminal>
-    requires { are_by_length 0 groups.now ≡ true }
+fn in_groups(shortest: usize, groups: &[&[Row]], bytes: &[u8]) -> Option<Terminal>
+    requires { are_by_length shortest groups.now ≡ true }
     ensures { result ≡ written_as (written_groups groups.now) bytes.now }
 {
-    match at(groups, bytes.len()) {
+    if bytes.len() < shortest {
+        return None;
+    }
+    match at(groups, bytes.len() - shortest) {
         None => None,
         Some(rows) => in_rows(rows, bytes),
     }
