@@ -1,11 +1,12 @@
 ghost use Rattle.std.specs.Prelude.{◌≡◌, ◌∷◌, [], ◌++◌, IfOk, OnOk, length, replicate, slice_get};
 ghost use Rattle.std.specs.Option.{option_copied};
-ghost use Rattle.ooo_walk.specs.Plans.{filed};
+ghost use Rattle.ooo_walk.specs.Plans.{filed, plans_from};
 ghost use Rattle.ooo_elaborate.specs.Elaborated.{assembled, bound_channels, bound_of, channel_names};
 ghost use Rattle.ooo_elaborate.specs.Elaborated.{channel_pass, first_events, held_in, IsAnswerTo};
 ghost use Rattle.ooo_elaborate.specs.Elaborated.{model_of, own_holds, process_functions, process_holds};
 ghost use Rattle.ooo_elaborate.specs.Elaborated.{process_members, process_names, processes_hold};
 ghost use Rattle.ooo_elaborate.specs.Elaborated.{unless_linked, unless_walked};
+ghost use Rattle.ooo_elaborate.specs.Holders.{holders_refusal};
 
 use crate::bindings::{Links, link_all, unbound};
 use crate::ends::hold_body;
@@ -17,8 +18,8 @@ use ooo_checked::CheckedUnit;
 use ooo_constants::Meaning;
 use ooo_value::{BoundChannel, Name, Names, narrow};
 use ooo_walk::{
-    ElabError, Modules, ProcessForm, Refusal, Walk, WalkedChannel, WalkedInstance, WalkedProcess,
-    calls, plans, reached, walk,
+    ElabError, Modules, Plan, ProcessForm, Refusal, Walk, WalkedChannel, WalkedInstance,
+    WalkedProcess, calls, plans, reached, walk,
 };
 use sqlite_items::{Items, at};
 use std::alloc::{AllocError, Global};
@@ -107,15 +108,29 @@ fn assembled(
 {
     let model = model(alloc, walk, links)?;
     let instances = numbered.instances.as_slice();
-    let functions = numbered.functions.as_slice();
+    let names_of = numbered.functions.as_slice();
+    let forms = walk.processes.as_slice();
+    let processes = keeping!(model; all_processes(alloc, modules, &model, instances, forms));
+    let functions = keeping!(
+        model, processes;
+        all_functions(alloc, modules, &model, instances, names_of)
+    );
+    drop(model);
+    let variables = Items::from_slice(alloc, walk.variables.as_slice());
+    let variables = keeping!(processes, functions; variables);
+    let channels = bound_channels(alloc, walk.channels.as_slice());
+    let channels = keeping!(processes, functions, variables; channels);
+    let events = Items::from_slice(alloc, walk.events.as_slice());
+    let events = keeping!(processes, functions, variables, channels; events);
+    let names = keeping!(processes, functions, variables, channels, events; names(alloc, walk));
     Ok(Bound {
-        processes: all_processes(alloc, modules, &model, instances, walk.processes.as_slice())?,
-        functions: all_functions(alloc, modules, &model, instances, functions)?,
-        variables: Items::from_slice(alloc, walk.variables.as_slice())?,
-        channels: bound_channels(alloc, walk.channels.as_slice())?,
-        events: Items::from_slice(alloc, walk.events.as_slice())?,
+        processes,
+        functions,
+        variables,
+        channels,
+        events,
         stop: walk.stop,
-        names: names(alloc, walk)?,
+        names,
     })
 }
 
@@ -205,6 +220,22 @@ fn held_in(
     Ok(all)
 }
 
+// What is refused among the channels of a model.
+fn channels_refusal(
+    alloc: Global,
+    modules: Modules<'_>,
+    walk: &Walk,
+    numbered: &Numbered,
+    bound: &Bound,
+) -> Result<Option<Refusal>, AllocError>
+    ensures { IfOk result (λ refusal. refusal ≡ holders_refusal walk.now.processes 0
+        walk.now.channels (held_in (filed modules.entry) walk.now numbered.now bound.now)) }
+{
+    let held = held_in(alloc, modules, walk, numbered, bound)?;
+    let processes = walk.processes.as_slice();
+    holders_refusal(alloc, processes, walk.channels.as_slice(), held.as_slice())
+}
+
 // The pass over the channels.
 fn channel_pass(
     alloc: Global,
@@ -217,12 +248,16 @@ fn channel_pass(
         (channel_pass (filed modules.entry) walk.now links.now numbered.now) result }
 {
     let bound = assembled(alloc, modules, walk, links, numbered)?;
-    let held = held_in(alloc, modules, walk, numbered, &bound)?;
-    let processes = walk.processes.as_slice();
-    let channels = walk.channels.as_slice();
-    match holders_refusal(alloc, processes, channels, held.as_slice())? {
-        Some(refusal) => Err(ElabError::Refused(refusal)),
-        None => Ok(bound),
+    match channels_refusal(alloc, modules, walk, numbered, &bound) {
+        Ok(None) => Ok(bound),
+        Ok(Some(refusal)) => {
+            drop(bound);
+            Err(ElabError::Refused(refusal))
+        }
+        Err(error) => {
+            drop(bound);
+            Err(ElabError::from(error))
+        }
     }
 }
 
@@ -278,6 +313,32 @@ fn binding_pass(alloc: Global, modules: Modules<'_>, walk: &Walk) -> Result<Boun
     }
 }
 
+// What is refused in the walk, or else the passes behind it.
+fn pass_behind(alloc: Global, modules: Modules<'_>, walk: &Walk) -> Result<Bound, ElabError>
+    ensures { IsAnswerTo (unless_walked walk.now.refusal (filed modules.entry) walk.now) result }
+{
+    match &walk.refusal {
+        Some(refusal) => refused(alloc, refusal),
+        None => binding_pass(alloc, modules, walk),
+    }
+}
+
+// All passes over a text, whose names the plans are of.
+#[tactic(auto, unfolding(crate::specs::Elaborated::bound_of))]
+fn passes(alloc: Global, unit: &CheckedUnit, plans: &[Plan]) -> Result<Bound, ElabError>
+    requires { plans.now ≡ plans_from 0 unit.now.items }
+    ensures { IsAnswerTo (bound_of unit.now) result }
+{
+    let modules = Modules {
+        items: unit.items.as_slice(),
+        plans,
+    };
+    let walk = walk(alloc, unit, plans)?;
+    let answer = pass_behind(alloc, modules, &walk);
+    drop(walk);
+    answer
+}
+
 /// Elaborates a text whose names and types are known: makes its instances, binds its ports and puts numbers in place of
 /// names (IEEE 1666-2011, clause 4.1).
 ///
@@ -285,18 +346,11 @@ fn binding_pass(alloc: Global, modules: Modules<'_>, walk: &Walk) -> Result<Boun
 ///
 /// What is refused first: in the walk over the declarations, then among the bindings, among the ports and among the
 /// channels; or memory runs out.
-#[tactic(auto, unfolding(crate::specs::Elaborated::bound_of))]
 pub fn elaborate(alloc: Global, unit: &CheckedUnit) -> Result<Bound, ElabError>
     ensures { IsAnswerTo (bound_of unit.now) result }
 {
     let plans = plans(alloc, unit.items.as_slice())?;
-    let modules = Modules {
-        items: unit.items.as_slice(),
-        plans: plans.as_slice(),
-    };
-    let walk = walk(alloc, unit, plans.as_slice())?;
-    match &walk.refusal {
-        Some(refusal) => refused(alloc, refusal),
-        None => binding_pass(alloc, modules, &walk),
-    }
+    let answer = passes(alloc, unit, plans.as_slice());
+    drop(plans);
+    answer
 }

@@ -5,6 +5,19 @@
 //! it refuses first in its four passes; or memory runs out.
 #![tactic(auto)]
 
+// Of an outcome what was made; an error is handed on, and the values made before it are let go.
+macro_rules! keeping {
+    ($($kept:ident),+; $made:expr) => {
+        match $made {
+            Ok(made) => made,
+            Err(error) => {
+                $(drop($kept);)+
+                return Err(error);
+            }
+        }
+    };
+}
+
 mod bindings;
 mod elaborated;
 mod ends;

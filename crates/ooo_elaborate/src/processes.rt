@@ -93,6 +93,20 @@ fn clock_wait(alloc: Global, half: Time) -> BoundSimple
     })
 }
 
+// A step of a clock's body behind others.
+fn with_step(
+    alloc: Global,
+    mut steps: Items<BoundStat>,
+    line: u32,
+    simple: BoundSimple,
+) -> Result<Items<BoundStat>, AllocError>
+    ensures { IfOk result (λ all. all ≡ steps ++ clock_step line simple ∷ []) }
+{
+    let step = keeping!(steps; clock_step(alloc, line, simple));
+    keeping!(steps; steps.push(step));
+    Ok(steps)
+}
+
 // A clock's body: it is true for half its period, and false for the other half, for ever.
 fn clock_body(
     alloc: Global,
@@ -102,15 +116,14 @@ fn clock_body(
 ) -> Result<Items<BoundStat>, AllocError>
     ensures { IfOk result (λ body. body ≡ clock_body channel half line) }
 {
-    let mut steps = Items::new(alloc);
-    steps.push(clock_step(alloc, line, clock_write(channel, true))?)?;
-    steps.push(clock_step(alloc, line, clock_wait(alloc, half))?)?;
-    steps.push(clock_step(alloc, line, clock_write(channel, false))?)?;
-    steps.push(clock_step(alloc, line, clock_wait(alloc, half))?)?;
+    let steps = with_step(alloc, Items::new(alloc), line, clock_write(channel, true))?;
+    let steps = with_step(alloc, steps, line, clock_wait(alloc, half))?;
+    let steps = with_step(alloc, steps, line, clock_write(channel, false))?;
+    let steps = with_step(alloc, steps, line, clock_wait(alloc, half))?;
     let turn = Boxed::new(alloc, BoundStat::Block(steps))?;
-    let test = Boxed::new(alloc, BoundExpr::Constant(Value::Bool(true)))?;
+    let test = keeping!(turn; Boxed::new(alloc, BoundExpr::Constant(Value::Bool(true))));
     let mut body = Items::new(alloc);
-    body.push(BoundStat::Do(line, turn, test))?;
+    keeping!(body; body.push(BoundStat::Do(line, turn, test)));
     Ok(body)
 }
 
