@@ -92,11 +92,15 @@ impl Board {
         ooo_dispatch::law::tables_are_rules();
         ooo_dispatch::law::accesses_are_inside();
         if !have_numbers(&design) {
+            drop(design);
+            drop(tables);
             return Err(AllocError);
         }
-        let links = Links::make(alloc, &design, &tables)?;
-        let core = Core::make(alloc, &design, &tables, &links, &limits)?;
-        let spares = Spares::make(alloc, core.fronts.len())?;
+        let links = keeping!(design, tables; Links::make(alloc, &design, &tables));
+        let core = Core::make(alloc, &design, &tables, &links, &limits);
+        let core = keeping!(design, tables, links; core);
+        let spares = Spares::make(alloc, core.fronts.len());
+        let spares = keeping!(design, tables, links, core; spares);
         Ok(Board {
             design,
             tables,

@@ -6,6 +6,19 @@
 //! events.
 #![tactic(auto)]
 
+// Of an outcome what was made; an error is handed on, and the values made before it are let go.
+macro_rules! keeping {
+    ($($kept:ident),+; $made:expr) => {
+        match $made {
+            Ok(made) => made,
+            Err(error) => {
+                $(drop($kept);)+
+                return Err(error);
+            }
+        }
+    };
+}
+
 mod board;
 mod carrying;
 mod committing;

@@ -31,15 +31,15 @@ invariant_of-result c =
     let design : Design = c.args.design.value in
     let limits = c.args.limits in
     let t = c.args.tables in
-    let core = c.in_ok-core.core in
+    let core = c.in-Ok-core.made in
     let is_core : IsCore design limits t (nothing_done (rules_of design limits t)) core =
-    subst (λ d. IsCore d limits t (nothing_done (rules_of d limits t)) core) c.deref-3.ensures c.in_ok-core.ensures in
+    subst (λ d. IsCore d limits t (nothing_done (rules_of d limits t)) core) c.deref-3.ensures c.in-Ok-core.ensures in
     let range = c.requires.range in
     let numbers : HaveNumbers design = subst HaveNumbers c.deref.ensures (c.if-not-have_numbers.ensures refl) in
     record {
       has = subst (λ (steps : List Step). HasCore design limits t steps core) (sym c.new.ensures.items)
           (has_nothing design limits t core (record { sound = c.requires.sound; tables = c.requires.tables; deltas = range.some; stop = range.stop }) range.deltas is_core);
-      links_are = subst (λ d. AreLinks d t c.in_ok-links.links) c.deref-2.ensures c.in_ok-links.ensures;
+      links_are = subst (λ d. AreLinks d t c.in-Ok.made) c.deref-2.ensures c.in-Ok.ensures;
       few = numbers.channels;
       counted = sym (none_running (rules_of design limits t) core.states.items is_core.has_states);
       room = omega (arith, c.new.ensures.len);
