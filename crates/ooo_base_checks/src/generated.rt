@@ -4,7 +4,7 @@ use std::alloc::AllocError;
 
 // What `bench/gen/text.py` writes, which was written from the definition alone.
 
-const ONE_STAGE: &[u8] = b"#include <systemc.h>
+static ONE_STAGE: &[u8] = b"#include <systemc.h>
 SC_MODULE(Source) { sc_fifo_out<int> out;
   void run() { for (int i = 0; i < 1; i++) { out.write(i); wait(1, SC_NS); } }
   SC_CTOR(Source) { SC_THREAD(run); } };
@@ -29,7 +29,7 @@ int sc_main(int argc, char* argv[]) {
 }
 ";
 
-const THREE_STAGES: &[u8] = b"#include <systemc.h>
+static THREE_STAGES: &[u8] = b"#include <systemc.h>
 SC_MODULE(Source) { sc_fifo_out<int> out;
   void run() { for (int i = 0; i < 5; i++) { out.write(i); wait(1, SC_NS); } }
   SC_CTOR(Source) { SC_THREAD(run); } };

@@ -28,7 +28,7 @@ fn has_made(trial: &Trial, steps: &[Step]) -> bool {
 }
 
 // Three jobs, each committed before the next one is dispatched.
-const ONE_AFTER_ANOTHER: [Step; 6] = [
+static ONE_AFTER_ANOTHER: [Step; 6] = [
     Dispatch(0),
     Commit(0),
     Dispatch(1),
@@ -38,75 +38,77 @@ const ONE_AFTER_ANOTHER: [Step; 6] = [
 ];
 
 // A job is out from its dispatch to its commit, and its process isn't dispatched again before.
+static OUT_UNTIL_COMMIT: [Line; 27] = [
+    Allowed(0, true),
+    Allowed(1, true),
+    Running(0, false),
+    Picks(Some(0)),
+    Holds(&[0, 0]),
+    IsOver(false),
+    IsLost(false),
+    Refuses(Commit(0)),
+    Refuses(Abandon(0)),
+    Refuses(Dispatch(2)),
+    Makes(Dispatch(0)),
+    Running(0, true),
+    Running(1, false),
+    Allowed(0, false),
+    Holder(0, None),
+    Refuses(Dispatch(0)),
+    Refuses(Commit(1)),
+    Makes(Commit(0)),
+    Running(0, false),
+    Front(0, None),
+    IsOver(false),
+    Makes(Dispatch(1)),
+    Makes(Commit(1)),
+    Makes(Dispatch(1)),
+    Makes(Commit(1)),
+    IsOver(true),
+    Picks(None),
+];
+
 #[test]
 fn a_job_is_out_until_its_commit(rt: HostRuntime) -> Result<(), Fail> {
     let alloc = rt.alloc();
-    let lines = [
-        Allowed(0, true),
-        Allowed(1, true),
-        Running(0, false),
-        Picks(Some(0)),
-        Holds(&[0, 0]),
-        IsOver(false),
-        IsLost(false),
-        Refuses(Commit(0)),
-        Refuses(Abandon(0)),
-        Refuses(Dispatch(2)),
-        Makes(Dispatch(0)),
-        Running(0, true),
-        Running(1, false),
-        Allowed(0, false),
-        Holder(0, None),
-        Refuses(Dispatch(0)),
-        Refuses(Commit(1)),
-        Makes(Commit(0)),
-        Running(0, false),
-        Front(0, None),
-        IsOver(false),
-        Makes(Dispatch(1)),
-        Makes(Commit(1)),
-        Makes(Dispatch(1)),
-        Makes(Commit(1)),
-        IsOver(true),
-        Picks(None),
-    ];
     let Some(sample) = Row::SecondThreadFirst.sample(alloc)? else {
         panic!(rt; "the text is refused")
     };
     let mut trial = Trial::make(alloc, &sample)?;
-    let wrong = first_wrong(alloc, &mut trial, &lines)?;
+    let wrong = first_wrong(alloc, &mut trial, &OUT_UNTIL_COMMIT)?;
     assert_eq!(rt; wrong, None);
     assert!(rt; has_made(&trial, &ONE_AFTER_ANOTHER));
     Ok(())
 }
 
 // Once a job is abandoned nothing is dispatched, and the board never is over; another job can be committed.
+static ABANDONED: [Line; 16] = [
+    Makes(Dispatch(0)),
+    Makes(Dispatch(1)),
+    Makes(Abandon(0)),
+    IsLost(true),
+    IsOver(false),
+    Picks(None),
+    Running(0, false),
+    Running(1, true),
+    Refuses(Abandon(0)),
+    Refuses(Commit(0)),
+    Makes(Commit(1)),
+    Running(1, false),
+    Allowed(0, false),
+    Allowed(1, false),
+    Holder(1, None),
+    IsOver(false),
+];
+
 #[test]
 fn an_abandoned_job_is_lost(rt: HostRuntime) -> Result<(), Fail> {
     let alloc = rt.alloc();
-    let lines = [
-        Makes(Dispatch(0)),
-        Makes(Dispatch(1)),
-        Makes(Abandon(0)),
-        IsLost(true),
-        IsOver(false),
-        Picks(None),
-        Running(0, false),
-        Running(1, true),
-        Refuses(Abandon(0)),
-        Refuses(Commit(0)),
-        Makes(Commit(1)),
-        Running(1, false),
-        Allowed(0, false),
-        Allowed(1, false),
-        Holder(1, None),
-        IsOver(false),
-    ];
     let Some(sample) = Row::VariableAhead.sample(alloc)? else {
         panic!(rt; "the text is refused")
     };
     let mut trial = Trial::make(alloc, &sample)?;
-    let wrong = first_wrong(alloc, &mut trial, &lines)?;
+    let wrong = first_wrong(alloc, &mut trial, &ABANDONED)?;
     assert_eq!(rt; wrong, None);
     let steps = [Dispatch(0), Dispatch(1), Abandon(0), Commit(1)];
     assert!(rt; has_made(&trial, &steps));

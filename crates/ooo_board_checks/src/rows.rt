@@ -78,7 +78,7 @@ impl Row {
     }
 }
 
-const SECOND_THREAD_FIRST: &[u8] = b"#include <systemc.h>\n\
+static SECOND_THREAD_FIRST: &[u8] = b"#include <systemc.h>\n\
     SC_MODULE(M) {\n\
     void a() { cout << \"a\" << endl; }\n\
     void b() { cout << \"b\" << endl; wait(5, SC_NS); cout << \"c\" << endl; }\n\
@@ -91,7 +91,7 @@ const SECOND_THREAD_FIRST: &[u8] = b"#include <systemc.h>\n\
     }\n\
     ";
 
-const VARIABLE_AHEAD: &[u8] = b"#include <systemc.h>\n\
+static VARIABLE_AHEAD: &[u8] = b"#include <systemc.h>\n\
     SC_MODULE(M) {\n\
     \x20 int x;\n\
     \x20 void a() { wait(5, SC_NS); x = 1; }\n\
@@ -105,7 +105,7 @@ const VARIABLE_AHEAD: &[u8] = b"#include <systemc.h>\n\
     }\n\
     ";
 
-const NOTIFIED_LATER: &[u8] = b"#include <systemc.h>\n\
+static NOTIFIED_LATER: &[u8] = b"#include <systemc.h>\n\
     SC_MODULE(M) {\n\
     sc_event e; int x;\n\
     void a() { wait(1, SC_NS); e.notify(SC_ZERO_TIME); }\n\
@@ -120,7 +120,7 @@ const NOTIFIED_LATER: &[u8] = b"#include <systemc.h>\n\
     }\n\
     ";
 
-const SLOW_READER: &[u8] = b"#include <systemc.h>\n\
+static SLOW_READER: &[u8] = b"#include <systemc.h>\n\
     SC_MODULE(M) {\n\
     sc_signal<int> s;\n\
     void a() { wait(5, SC_NS); cout << s.read() << endl; }\n\
@@ -134,7 +134,7 @@ const SLOW_READER: &[u8] = b"#include <systemc.h>\n\
     }\n\
     ";
 
-const SLOW_READER_REPORT: &[u8] = b"1\n\
+static SLOW_READER_REPORT: &[u8] = b"1\n\
     == histories\n\
     m.s @ 0 s 0 = 1\n\
     m.s @ 10 ns 0 = 2\n\
@@ -142,7 +142,7 @@ const SLOW_READER_REPORT: &[u8] = b"1\n\
     idle 10 ns 0\n\
     ";
 
-const FAULT_BEHIND: &[u8] = b"#include <systemc.h>\n\
+static FAULT_BEHIND: &[u8] = b"#include <systemc.h>\n\
     SC_MODULE(M) {\n\
     \x20 int z;\n\
     \x20 void a() { wait(5, SC_NS); cout << \"x\" << endl; for (int i = 0; i < 1000; i++) { } cout << 1 / z << endl; }\n\
@@ -156,14 +156,14 @@ const FAULT_BEHIND: &[u8] = b"#include <systemc.h>\n\
     }\n\
     ";
 
-const FAULT_BEHIND_REPORT: &[u8] = b"0 s\n\
+static FAULT_BEHIND_REPORT: &[u8] = b"0 s\n\
     x\n\
     == histories\n\
     == end\n\
     fault DivideByZero 5 ns 0 m.a 4\n\
     ";
 
-const FIFO_OF_ONE: &[u8] = b"#include <systemc.h>\n\
+static FIFO_OF_ONE: &[u8] = b"#include <systemc.h>\n\
     SC_MODULE(M) {\n\
     sc_fifo<int> q;\n\
     void w() { for (int i = 1; i <= 3; i++) q.write(i); }\n\
@@ -177,7 +177,7 @@ const FIFO_OF_ONE: &[u8] = b"#include <systemc.h>\n\
     }\n\
     ";
 
-const FIFO_OF_ONE_REPORT: &[u8] = b"1\n\
+static FIFO_OF_ONE_REPORT: &[u8] = b"1\n\
     2\n\
     3\n\
     == histories\n\
@@ -191,7 +191,7 @@ const FIFO_OF_ONE_REPORT: &[u8] = b"1\n\
     idle 0 s 5\n\
     ";
 
-const STOPPED: &[u8] = b"#include <systemc.h>\n\
+static STOPPED: &[u8] = b"#include <systemc.h>\n\
     SC_MODULE(M) {\n\
     \x20 sc_signal<bool> a, b;\n\
     \x20 void f() { a.write(!b.read()); }\n\
@@ -210,7 +210,7 @@ const STOPPED: &[u8] = b"#include <systemc.h>\n\
     }\n\
     ";
 
-const STOPPED_REPORT: &[u8] = b"t\n\
+static STOPPED_REPORT: &[u8] = b"t\n\
     == histories\n\
     m.a @ 0 s 0 = 1\n\
     m.a @ 0 s 2 = 0\n\

@@ -36,154 +36,166 @@ fn is_text(text: &Option<Vec<u8>>, wanted: &[u8]) -> bool {
     }
 }
 
-// A front at so many picoseconds and delta cycles.
-fn front(segment: u32, ticks: u64, delta: u32) -> Option<ooo_fronts::Front> {
-    Some(ooo_fronts::Front {
-        segment,
-        stamp: at(ticks, delta),
-    })
+// A time in picoseconds and a delta cycle.
+macro_rules! at {
+    ($ticks:expr, $delta:expr) => {
+        Stamp {
+            time: Time($ticks),
+            delta: $delta,
+        }
+    };
+}
+
+// The front of a process: what it leads to, and at what time and delta cycle.
+macro_rules! front {
+    ($segment:expr, $ticks:expr, $delta:expr) => {
+        Some(ooo_fronts::Front {
+            segment: $segment,
+            stamp: at!($ticks, $delta),
+        })
+    };
 }
 
 // What holds a process up: the front of a process, by what it leads to.
-fn held(front: u32, segment: u32, ticks: u64, delta: u32) -> Option<Hold> {
-    Some(Hold {
-        front,
-        segment,
-        at: at(ticks, delta),
-    })
-}
-
-fn at(ticks: u64, delta: u32) -> Stamp {
-    Stamp {
-        time: Time(ticks),
-        delta,
-    }
+macro_rules! held {
+    ($front:expr, $segment:expr, $ticks:expr, $delta:expr) => {
+        Some(Hold {
+            front: $front,
+            segment: $segment,
+            at: at!($ticks, $delta),
+        })
+    };
 }
 
 // The second thread is dispatched and committed twice while the first one's job is out.
+static SECOND_ENDS_FIRST: [Line; 9] = [
+    Makes(Dispatch(0)),
+    Picks(Some(1)),
+    Makes(Dispatch(1)),
+    Makes(Commit(1)),
+    Makes(Dispatch(1)),
+    Makes(Commit(1)),
+    IsOver(false),
+    Makes(Commit(0)),
+    IsOver(true),
+];
+
 #[test]
 fn the_second_thread_ends_first(rt: HostRuntime) -> Result<(), Fail> {
-    let lines = [
-        Makes(Dispatch(0)),
-        Picks(Some(1)),
-        Makes(Dispatch(1)),
-        Makes(Commit(1)),
-        Makes(Dispatch(1)),
-        Makes(Commit(1)),
-        IsOver(false),
-        Makes(Commit(0)),
-        IsOver(true),
-    ];
-    follows(&rt, rt.alloc(), Row::SecondThreadFirst, &lines)
+    follows(&rt, rt.alloc(), Row::SecondThreadFirst, &SECOND_ENDS_FIRST)
 }
 
 // The second thread reads the variable at 3 ns before the first is dispatched. At 10 ns it is held up, since the first writes
 // the variable at 5 ns: by one clash.
+static READ_AHEAD: [Line; 22] = [
+    Makes(Dispatch(1)),
+    Makes(Commit(1)),
+    Front(1, front!(3, 3_000, 0)),
+    Allowed(1, true),
+    Makes(Dispatch(1)),
+    Makes(Commit(1)),
+    Front(1, front!(4, 10_000, 0)),
+    Allowed(1, false),
+    Refuses(Dispatch(1)),
+    Holder(1, held!(0, 1, 5_000, 0)),
+    Holds(&[0, 1]),
+    Picks(Some(0)),
+    Makes(Dispatch(0)),
+    Makes(Commit(0)),
+    Makes(Dispatch(0)),
+    Makes(Commit(0)),
+    Allowed(1, true),
+    Holder(1, None),
+    Holds(&[0, 0]),
+    Makes(Dispatch(1)),
+    Makes(Commit(1)),
+    IsOver(true),
+];
+
 #[test]
 fn a_variable_is_read_ahead(rt: HostRuntime) -> Result<(), Fail> {
-    let lines = [
-        Makes(Dispatch(1)),
-        Makes(Commit(1)),
-        Front(1, front(3, 3_000, 0)),
-        Allowed(1, true),
-        Makes(Dispatch(1)),
-        Makes(Commit(1)),
-        Front(1, front(4, 10_000, 0)),
-        Allowed(1, false),
-        Refuses(Dispatch(1)),
-        Holder(1, held(0, 1, 5_000, 0)),
-        Holds(&[0, 1]),
-        Picks(Some(0)),
-        Makes(Dispatch(0)),
-        Makes(Commit(0)),
-        Makes(Dispatch(0)),
-        Makes(Commit(0)),
-        Allowed(1, true),
-        Holder(1, None),
-        Holds(&[0, 0]),
-        Makes(Dispatch(1)),
-        Makes(Commit(1)),
-        IsOver(true),
-    ];
-    follows(&rt, rt.alloc(), Row::VariableAhead, &lines)
+    follows(&rt, rt.alloc(), Row::VariableAhead, &READ_AHEAD)
 }
 
 // The third thread is held up by what the second will write, once the first has notified it.
+static HELD_UP_BY_NOTIFIED: [Line; 21] = [
+    Makes(Dispatch(1)),
+    Makes(Commit(1)),
+    Makes(Dispatch(2)),
+    Makes(Commit(2)),
+    Front(1, None),
+    Allowed(1, false),
+    Allowed(2, false),
+    Holder(2, held!(0, 3, 1_000, 1)),
+    Makes(Dispatch(0)),
+    Makes(Commit(0)),
+    Makes(Dispatch(0)),
+    Makes(Commit(0)),
+    Front(1, front!(3, 1_000, 1)),
+    Allowed(2, false),
+    Holder(2, held!(1, 3, 1_000, 1)),
+    Makes(Dispatch(1)),
+    Refuses(Dispatch(2)),
+    Makes(Commit(1)),
+    Makes(Dispatch(2)),
+    Makes(Commit(2)),
+    IsOver(true),
+];
+
 #[test]
 fn who_is_notified_later_holds_up(rt: HostRuntime) -> Result<(), Fail> {
-    let lines = [
-        Makes(Dispatch(1)),
-        Makes(Commit(1)),
-        Makes(Dispatch(2)),
-        Makes(Commit(2)),
-        Front(1, None),
-        Allowed(1, false),
-        Allowed(2, false),
-        Holder(2, held(0, 3, 1_000, 1)),
-        Makes(Dispatch(0)),
-        Makes(Commit(0)),
-        Makes(Dispatch(0)),
-        Makes(Commit(0)),
-        Front(1, front(3, 1_000, 1)),
-        Allowed(2, false),
-        Holder(2, held(1, 3, 1_000, 1)),
-        Makes(Dispatch(1)),
-        Refuses(Dispatch(2)),
-        Makes(Commit(1)),
-        Makes(Dispatch(2)),
-        Makes(Commit(2)),
-        IsOver(true),
-    ];
-    follows(&rt, rt.alloc(), Row::NotifiedLater, &lines)
+    follows(&rt, rt.alloc(), Row::NotifiedLater, &HELD_UP_BY_NOTIFIED)
 }
 
 // Who writes a signal runs ahead of who reads it later, which sees what was written before.
+static WRITER_AHEAD: [Line; 13] = [
+    Makes(Dispatch(1)),
+    Makes(Commit(1)),
+    Allowed(1, true),
+    Holder(1, None),
+    Makes(Dispatch(1)),
+    Makes(Commit(1)),
+    Front(1, None),
+    Makes(Dispatch(0)),
+    Makes(Commit(0)),
+    Front(0, front!(1, 5_000, 0)),
+    Makes(Dispatch(0)),
+    Makes(Commit(0)),
+    IsOver(true),
+];
+
 #[test]
 fn a_writer_is_ahead_of_a_reader(rt: HostRuntime) -> Result<(), Fail> {
-    let lines = [
-        Makes(Dispatch(1)),
-        Makes(Commit(1)),
-        Allowed(1, true),
-        Holder(1, None),
-        Makes(Dispatch(1)),
-        Makes(Commit(1)),
-        Front(1, None),
-        Makes(Dispatch(0)),
-        Makes(Commit(0)),
-        Front(0, front(1, 5_000, 0)),
-        Makes(Dispatch(0)),
-        Makes(Commit(0)),
-        IsOver(true),
-    ];
-    follows(&rt, rt.alloc(), Row::SlowReader, &lines)
+    follows(&rt, rt.alloc(), Row::SlowReader, &WRITER_AHEAD)
 }
 
 // The second thread runs to the stop time before the first faults, at 5 ns: what it printed after that isn't in the report.
+static CUT_OFF: [Line; 20] = [
+    Makes(Dispatch(1)),
+    Makes(Commit(1)),
+    Makes(Dispatch(1)),
+    Makes(Commit(1)),
+    Makes(Dispatch(1)),
+    Makes(Commit(1)),
+    Makes(Dispatch(1)),
+    Makes(Commit(1)),
+    Makes(Dispatch(1)),
+    Makes(Commit(1)),
+    Makes(Dispatch(1)),
+    Makes(Commit(1)),
+    Front(1, front!(3, 120_000, 0)),
+    Allowed(1, false),
+    Makes(Dispatch(0)),
+    Makes(Commit(0)),
+    Makes(Dispatch(0)),
+    IsOver(false),
+    Makes(Commit(0)),
+    IsOver(true),
+];
+
 #[test]
 fn a_fault_cuts_off_what_ran_ahead(rt: HostRuntime) -> Result<(), Fail> {
-    let lines = [
-        Makes(Dispatch(1)),
-        Makes(Commit(1)),
-        Makes(Dispatch(1)),
-        Makes(Commit(1)),
-        Makes(Dispatch(1)),
-        Makes(Commit(1)),
-        Makes(Dispatch(1)),
-        Makes(Commit(1)),
-        Makes(Dispatch(1)),
-        Makes(Commit(1)),
-        Makes(Dispatch(1)),
-        Makes(Commit(1)),
-        Front(1, front(3, 120_000, 0)),
-        Allowed(1, false),
-        Makes(Dispatch(0)),
-        Makes(Commit(0)),
-        Makes(Dispatch(0)),
-        IsOver(false),
-        Makes(Commit(0)),
-        IsOver(true),
-    ];
-    follows(&rt, rt.alloc(), Row::FaultBehind, &lines)
+    follows(&rt, rt.alloc(), Row::FaultBehind, &CUT_OFF)
 }
 
 // Each board comes to be over, whatever order is drawn, and reports what the sequential scheduler does.

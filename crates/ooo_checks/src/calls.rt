@@ -6,7 +6,7 @@ use std::alloc::{AllocError, Global};
 use std::test::Fail;
 
 // Two threads, of which the first prints, waits for 10 ns and prints the time, and the second prints.
-const MODEL: &[u8] = b"#include <systemc.h>\n\
+static MODEL: &[u8] = b"#include <systemc.h>\n\
     SC_MODULE(M) {\n\
     \x20 void a() { cout << \"a\" << endl; wait(10, SC_NS); cout << sc_time_stamp() << endl; }\n\
     \x20 void b() { cout << \"b\" << endl; }\n\
@@ -19,9 +19,9 @@ const MODEL: &[u8] = b"#include <systemc.h>\n\
     }\n\
     ";
 
-const REPORT: &[u8] = b"a\nb\n10 ns\n== histories\n== end\nidle 10 ns 0\n";
+static REPORT: &[u8] = b"a\nb\n10 ns\n== histories\n== end\nidle 10 ns 0\n";
 
-const NO_TEXT: &[u8] = b"refused parser Syntax 1:1048577\n";
+static NO_TEXT: &[u8] = b"refused parser Syntax 1:1048577\n";
 
 // How a call is fed: the most bytes of a read, the number of the read that fails (0: none), and so for the writes.
 #[derive(Clone, Copy)]

@@ -12,7 +12,6 @@ use std::process::Abort;
 use std::test::Fail;
 
 // What stands before and after a row in its text.
-#[derive(Clone, Copy)]
 struct Frame {
     file: &'static str,
     members: &'static str,
@@ -20,84 +19,84 @@ struct Frame {
     after: &'static str,
 }
 
-const TEXT: Frame = Frame {
+static TEXT: Frame = Frame {
     file: "",
     members: "",
     before: "",
     after: "",
 };
 
-const ITEM: Frame = Frame {
+static ITEM: Frame = Frame {
     file: "",
     members: "",
     before: "\n",
     after: "\nint sc_main(int, char*[]) {}\n",
 };
 
-const MAIN: Frame = Frame {
+static MAIN: Frame = Frame {
     file: table::FILE_HEAD,
     members: "",
     before: "int sc_main(int argc, char* argv[]) {\n",
     after: "\n}\n",
 };
 
-const MEMBER: Frame = Frame {
+static MEMBER: Frame = Frame {
     file: table::FILE_HEAD,
     members: "",
     before: "SC_MODULE(M) {\n",
     after: "\n};\nint sc_main(int, char*[]) {}\n",
 };
 
-const SETUP: Frame = Frame {
+static SETUP: Frame = Frame {
     file: table::FILE_HEAD,
     members: table::MODULE_HEAD,
     before: "void run() {} SC_CTOR(M) {\n",
     after: "\n} };\nint sc_main(int, char*[]) {}\n",
 };
 
-const SENSITIVE: Frame = Frame {
+static SENSITIVE: Frame = Frame {
     file: table::FILE_HEAD,
     members: table::MODULE_HEAD,
     before: "void run() {} SC_CTOR(M) { SC_THREAD(run); sensitive <<\n",
     after: "\n; } };\nint sc_main(int, char*[]) {}\n",
 };
 
-const INIT: Frame = Frame {
+static INIT: Frame = Frame {
     file: table::FILE_HEAD,
     members: table::MODULE_HEAD,
     before: "void run() {} SC_CTOR(M) :\n",
     after: "\n{} };\nint sc_main(int, char*[]) {}\n",
 };
 
-const BUILD: Frame = Frame {
+static BUILD: Frame = Frame {
     file: table::FILE_HEAD,
     members: table::MODULE_HEAD,
     before: "M(sc_module_name name, int size, bool wide) :\n",
     after: "\n{} };\nint sc_main(int, char*[]) {}\n",
 };
 
-const THREAD: Frame = Frame {
+static THREAD: Frame = Frame {
     file: table::FILE_HEAD,
     members: table::MODULE_HEAD,
     before: "SC_CTOR(M) { SC_THREAD(run); } void run() {\n",
     after: "\n} };\nint sc_main(int, char*[]) {}\n",
 };
 
-const METHOD: Frame = Frame {
+static METHOD: Frame = Frame {
     file: table::FILE_HEAD,
     members: table::MODULE_HEAD,
     before: "SC_CTOR(M) { SC_METHOD(run); } void run() {\n",
     after: "\n} };\nint sc_main(int, char*[]) {}\n",
 };
 
-const LOOSE: Frame = Frame {
+static LOOSE: Frame = Frame {
     file: table::FILE_HEAD,
     members: table::MODULE_HEAD,
     before: "void loose() {\n",
     after: "\n} };\nint sc_main(int, char*[]) {}\n",
 };
 
-const VALUE: Frame = Frame {
+static VALUE: Frame = Frame {
     file: table::FILE_HEAD,
     members: table::MODULE_HEAD,
     before: "int value() {\n",
@@ -105,41 +104,41 @@ const VALUE: Frame = Frame {
 };
 
 // The tables, each with what stands around its rows.
-fn tables() -> [(Frame, &'static str); 33] {
+fn tables() -> [(&'static Frame, &'static str); 33] {
     [
-        (THREAD, table::NAMES),
-        (THREAD, table::DOTS),
-        (THREAD, table::SIGNALS),
-        (THREAD, table::FIFOS),
-        (THREAD, table::TARGETS),
-        (THREAD, table::WRITES),
-        (THREAD, table::VALUES),
-        (THREAD, table::CALLS),
-        (THREAD, table::LOCALS),
-        (THREAD, table::LOOPS),
-        (THREAD, table::WAITS),
-        (METHOD, table::METHODS),
-        (LOOSE, table::LOOSE),
-        (VALUE, table::RESULTS),
-        (SENSITIVE, table::SENSITIVE),
-        (SETUP, table::SETUPS),
-        (INIT, table::INITS),
-        (BUILD, table::PARAMS),
-        (MEMBER, table::MEMBERS),
-        (MEMBER, table::FUNCTIONS),
-        (MEMBER, table::CONSTRUCTORS),
-        (MEMBER, table::ORDER),
-        (MAIN, table::MAINS),
-        (ITEM, table::FILES),
-        (TEXT, table::TEXTS),
-        (MEMBER, table::REGISTERED),
-        (ITEM, table::STRANGERS),
-        (THREAD, table::OPEN_BODIES),
-        (MEMBER, table::OPEN_MEMBERS),
-        (BUILD, table::OPEN_INITS),
-        (SETUP, table::OPEN_SETUPS),
-        (MAIN, table::OPEN_MAINS),
-        (TEXT, table::SHORTEST),
+        (&THREAD, table::NAMES),
+        (&THREAD, table::DOTS),
+        (&THREAD, table::SIGNALS),
+        (&THREAD, table::FIFOS),
+        (&THREAD, table::TARGETS),
+        (&THREAD, table::WRITES),
+        (&THREAD, table::VALUES),
+        (&THREAD, table::CALLS),
+        (&THREAD, table::LOCALS),
+        (&THREAD, table::LOOPS),
+        (&THREAD, table::WAITS),
+        (&METHOD, table::METHODS),
+        (&LOOSE, table::LOOSE),
+        (&VALUE, table::RESULTS),
+        (&SENSITIVE, table::SENSITIVE),
+        (&SETUP, table::SETUPS),
+        (&INIT, table::INITS),
+        (&BUILD, table::PARAMS),
+        (&MEMBER, table::MEMBERS),
+        (&MEMBER, table::FUNCTIONS),
+        (&MEMBER, table::CONSTRUCTORS),
+        (&MEMBER, table::ORDER),
+        (&MAIN, table::MAINS),
+        (&ITEM, table::FILES),
+        (&TEXT, table::TEXTS),
+        (&MEMBER, table::REGISTERED),
+        (&ITEM, table::STRANGERS),
+        (&THREAD, table::OPEN_BODIES),
+        (&MEMBER, table::OPEN_MEMBERS),
+        (&BUILD, table::OPEN_INITS),
+        (&SETUP, table::OPEN_SETUPS),
+        (&MAIN, table::OPEN_MAINS),
+        (&TEXT, table::SHORTEST),
     ]
 }
 
@@ -180,7 +179,7 @@ fn checked(alloc: Global, unit: Unit) -> Result<Vec<u8>, AllocError> {
     }
 }
 
-fn framed(alloc: Global, frame: Frame, body: &str) -> Result<Vec<u8>, AllocError> {
+fn framed(alloc: Global, frame: &Frame, body: &str) -> Result<Vec<u8>, AllocError> {
     let mut text = Vec::from_slice(alloc, frame.file.as_bytes())?;
     text.extend_from_slice(frame.members.as_bytes())?;
     text.extend_from_slice(frame.before.as_bytes())?;
@@ -193,7 +192,7 @@ fn framed(alloc: Global, frame: Frame, body: &str) -> Result<Vec<u8>, AllocError
 fn try_row(
     rt: &impl Abort,
     alloc: Global,
-    frame: Frame,
+    frame: &Frame,
     row: &str,
     wrong: &mut Vec<u8>,
 ) -> Result<(), AllocError> {
@@ -215,7 +214,7 @@ fn try_row(
 fn try_rows(
     rt: &impl Abort,
     alloc: Global,
-    frame: Frame,
+    frame: &Frame,
     rows: &str,
     wrong: &mut Vec<u8>,
 ) -> Result<(), AllocError> {

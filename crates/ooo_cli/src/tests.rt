@@ -6,7 +6,7 @@ use std::test::Fail;
 use std::thread::Threads;
 
 // The model and the report of the row second-thread-first.
-const MODEL: &[u8] = b"#include <systemc.h>\n\
+static MODEL: &[u8] = b"#include <systemc.h>\n\
     SC_MODULE(M) {\n\
     void a() { cout << \"a\" << endl; }\n\
     void b() { cout << \"b\" << endl; wait(5, SC_NS); cout << \"c\" << endl; }\n\
@@ -19,7 +19,7 @@ const MODEL: &[u8] = b"#include <systemc.h>\n\
     }\n\
     ";
 
-const REPORT: &[u8] = b"a\nb\nc\n== histories\n== end\nidle 5 ns 0\n";
+static REPORT: &[u8] = b"a\nb\nc\n== histories\n== end\nidle 5 ns 0\n";
 
 // How many bytes a read gives and a write takes at most.
 const MOST: usize = 16;

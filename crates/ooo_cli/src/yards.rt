@@ -18,7 +18,7 @@ use std::sync::{Arc, Wait};
 use std::test::Fail;
 
 // The model of the row second-thread-first.
-const SECOND_THREAD_FIRST: &[u8] = b"#include <systemc.h>\n\
+static SECOND_THREAD_FIRST: &[u8] = b"#include <systemc.h>\n\
     SC_MODULE(M) {\n\
     void a() { cout << \"a\" << endl; }\n\
     void b() { cout << \"b\" << endl; wait(5, SC_NS); cout << \"c\" << endl; }\n\
@@ -32,7 +32,7 @@ const SECOND_THREAD_FIRST: &[u8] = b"#include <systemc.h>\n\
     ";
 
 // The model of the row variable-ahead.
-const VARIABLE_AHEAD: &[u8] = b"#include <systemc.h>\n\
+static VARIABLE_AHEAD: &[u8] = b"#include <systemc.h>\n\
     SC_MODULE(M) {\n\
     \x20 int x;\n\
     \x20 void a() { wait(5, SC_NS); x = 1; }\n\

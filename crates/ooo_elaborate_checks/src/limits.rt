@@ -56,7 +56,7 @@ const BODY: &str = "SC_MODULE(M) {};\nSC_MODULE(N) {\n";
 
 const LAST: &str = "};\nint sc_main(int, char*[]) { N n(\"n\"); }\n";
 
-const LIMITS: [Limit; 11] = [
+static LIMITS: [Limit; 11] = [
     Limit {
         head: "SC_MODULE(M) { void a() {} SC_CTOR(M) {\nSC_THREAD(a); } };\nint sc_main(int, char*[]) {\n",
         each: INSTANCE,

@@ -5,7 +5,7 @@ use std::alloc::Global;
 use std::process::Abort;
 use std::test::Fail;
 
-const CLOCKED: &str = "#include <systemc>
+static CLOCKED: &str = "#include <systemc>
 #include <iostream>
 using namespace sc_core;
 using namespace std;
@@ -52,7 +52,7 @@ int sc_main(int argc, char* argv[]) {
 }
 ";
 
-const CLOCKED_MODEL: &str = "processes clk p.run c.run
+static CLOCKED_MODEL: &str = "processes clk p.run c.run
 thread starts [] {36:do {36:s0 := 1b; 36:wait =5000 []; 36:s0 := 0b; 36:wait =5000 [];} while (1b)}
 thread starts [1] {11:while (1b) {12:wait static - []; 13:v0 := (+ v0 1i); 14:put 1 v0;}}
 thread starts [] {27:while (1b) {{28:$0i := read 1;} 29:print time \": \" $0i \"\\n\";}}
@@ -68,7 +68,7 @@ taken 1
 stop =25000
 ";
 
-const NESTED: &str = "const int BASE = 2;
+static NESTED: &str = "const int BASE = 2;
 SC_MODULE(Leaf) {
   sc_in<bool> clk; sc_out<int> o; sc_event done;
   int sum, tab[BASE + 1]; static const unsigned STEP = 3;
@@ -91,7 +91,7 @@ int sc_main(int argc, char* argv[]) {
   sc_signal<bool> clk; Top t(\"t\"); t.c(clk); sc_start(); }
 ";
 
-const NESTED_MODEL: &str = "processes t.m.a.run t.m.a.watch t.m.b.run t.m.b.watch t.m.go
+static NESTED_MODEL: &str = "processes t.m.a.run t.m.a.watch t.m.b.run t.m.b.watch t.m.go
 method waits [2 4] {7:_ := call 0(v0, 1b); 7:s1 := v0; 7:v1[(% v0 3i)] := 3u; 7:notify 4 =2000;}
 method starts [] {8:trigger - [4]; 8:v0 -= 1i;}
 method waits [2 5] {7:_ := call 2(v2, 1b); 7:s2 := v2; 7:v3[(% v2 3i)] := 3u; 7:notify 5 =2000;}
@@ -122,7 +122,7 @@ changed 2
 stop
 ";
 
-const PIPELINE: &str = "SC_MODULE(Source) { sc_fifo_out<int> out; const int items;
+static PIPELINE: &str = "SC_MODULE(Source) { sc_fifo_out<int> out; const int items;
   Source(sc_module_name n, int m) : sc_module(n), items(m) { SC_THREAD(run); }
   void run() { for (int i = 0; i < items; i++) { out.write(i); wait(1, SC_NS); } } };
 SC_MODULE(Stage) { sc_fifo_in<int> in; sc_fifo_out<int> out; const int add; const unsigned gap;
@@ -141,7 +141,7 @@ int sc_main(int, char*[]) { const int k = 3;
   s.out(f); p.in(f); p.out(g); d.in(g); sc_start(2, SC_US); }
 ";
 
-const PIPELINE_MODEL: &str = "processes s.run p.a.run p.b.run d.run
+static PIPELINE_MODEL: &str = "processes s.run p.a.run p.b.run d.run
 thread starts [] {3:for (3:$0i := 0i;; (< $0i 7i); 3:$0i += 1i;) {3:put 0 $0i; 3:wait =1000 [];}}
 thread starts [] {7:while (1b) {{7:$0i := read 0;} 7:wait =9000 []; 7:put 2 (+ $0i 12i);}}
 thread starts [] {7:while (1b) {{7:$0i := read 2;} 7:wait =1000 []; 7:put 1 (+ $0i -2i);}}
@@ -163,7 +163,7 @@ stop =2000000
 ";
 
 // Each spelling of an event, each operator, and each statement that the others have not.
-const SPELLINGS: &str = "SC_MODULE(K) {
+static SPELLINGS: &str = "SC_MODULE(K) {
   sc_in<bool> b; sc_in<int> i; sc_out<bool> o; sc_inout<int> u; sc_fifo_in<int> r; sc_fifo_out<int> w; sc_event e;
   bool g; unsigned n; long long l[4];
   void f() {}
@@ -181,7 +181,7 @@ int sc_main(int, char*[]) { sc_signal<bool> sb; sc_signal<int> si; sc_signal<boo
   K k(\"k\"); k.b(sb); k.i(si); k.o(so); k.u(su); k.r(q); k.w(z); }
 ";
 
-const SPELLINGS_MODEL: &str = "processes k.f k.t k.all
+static SPELLINGS_MODEL: &str = "processes k.f k.t k.all
 method starts [12 0 3 1 2 0] {}
 thread waits [8 11 4 7 3 12] {}
 thread starts [] {6:while (1b) {7:wait - [12 0 0 1 2]; 8:wait - [3 5 7 8 11]; \

@@ -8,7 +8,7 @@ use sqlite_items::Items;
 use std::alloc::{AllocError, Global};
 use std::test::Fail;
 
-const PRINTS: &str = "thread starts [0] from 0 to 6 [b i u l ul b i u l ul]
+static PRINTS: &str = "thread starts [0] from 0 to 6 [b i u l ul b i u l ul]
 0: goto; line 1 counted; next 1
 1: print v0; line 1; next 2
 2: print \"x\\n\"; line 1; next 3
@@ -53,7 +53,7 @@ fn on_static(alloc: Global) -> BoundWait {
     }
 }
 
-const WAITS: &str = "thread starts [0] from 0 to 6 [b i u l ul b i u l ul]
+static WAITS: &str = "thread starts [0] from 0 to 6 [b i u l ul b i u l ul]
 0: wait v0 ns [4 0]; line 1 counted; next 1
 1: wait static - [0]; line 2 counted; next 2
 2: notify 0 =7; line 3 counted; next 3
@@ -80,7 +80,7 @@ fn waits(rt: HostRuntime) -> Result<(), Fail> {
     Ok(())
 }
 
-const TRIGGERS: &str = "method waits [0] from 0 to 3 [b i u l ul b i u l ul]
+static TRIGGERS: &str = "method waits [0] from 0 to 3 [b i u l ul b i u l ul]
 0: trigger =3 [5]; line 1 counted; next 1
 1: trigger static - [0]; line 2 counted; next 2
 2: end; line 0; next 2

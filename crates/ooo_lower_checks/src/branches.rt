@@ -21,7 +21,7 @@ fn one_of(
     Ok(BoundStat::If(line, test, yes, Some(no)))
 }
 
-const BRANCHES: &str = "thread starts [0] from 0 to 8 [b i u l ul b i u l ul b]
+static BRANCHES: &str = "thread starts [0] from 0 to 8 [b i u l ul b i u l ul b]
 0: test v0 else 2; line 1 counted; next 1
 1: v0 := 1i; line 2 counted; next 4
 2: v0 := 2i; line 3 counted; next 3

@@ -35,7 +35,7 @@ fn function(
     })
 }
 
-const RESULT: &str = "thread starts [0] from 0 to 12 [b i u l ul b i u l ul l b b i]
+static RESULT: &str = "thread starts [0] from 0 to 12 [b i u l ul b i u l ul l b b i]
 0: goto; line 1 counted; next 1
 1: $10 := 0l; line 1; next 2
 2: $11 := 0b; line 1; next 3
@@ -77,7 +77,7 @@ fn first_or_three(alloc: Global) -> Result<BoundFunction, AllocError> {
     function(alloc, Some(Kind::Long), &[Kind::Int, Kind::Bool], body)
 }
 
-const VOID: &str = "thread starts [0] from 0 to 12 [b i u l ul b i u l ul i u]
+static VOID: &str = "thread starts [0] from 0 to 12 [b i u l ul b i u l ul i u]
 0: $10 := 1i; line 1 counted; next 1
 1: goto; line 2 counted; next 2
 2: $11 := 0u; line 2; next 3
@@ -119,7 +119,7 @@ fn unless_zero(alloc: Global) -> Result<BoundFunction, AllocError> {
     function(alloc, None, &[Kind::Uint], body)
 }
 
-const NESTED: &str = "thread starts [0] from 0 to 20 [b i u l ul b i u l ul i i i i i i i]
+static NESTED: &str = "thread starts [0] from 0 to 20 [b i u l ul b i u l ul i i i i i i i]
 0: goto; line 1 counted; next 1
 1: $10 := 0i; line 1; next 2
 2: $11 := 0i; line 1; next 3

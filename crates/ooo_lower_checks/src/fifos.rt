@@ -6,7 +6,7 @@ use ooo_value::{Kind, Value};
 use sqlite_items::Items;
 use std::test::Fail;
 
-const BLOCKING: &str = "thread starts [0] from 0 to 13 [b i u l ul b i u l ul]
+static BLOCKING: &str = "thread starts [0] from 0 to 13 [b i u l ul b i u l ul]
 0: available 0 else 1; line 1 counted; next 2
 1: wait - [1]; line 1; next 0
 2: $3 := take 0; line 1; next 3
@@ -36,7 +36,7 @@ fn blocking(rt: HostRuntime) -> Result<(), Fail> {
     Ok(())
 }
 
-const NB_READS: &str = "thread starts [0] from 0 to 19 [b i u l ul b i u l ul b i i]
+static NB_READS: &str = "thread starts [0] from 0 to 19 [b i u l ul b i u l ul b i i]
 0: goto; line 1 counted; next 1
 1: available 0 else 5; line 1; next 2
 2: $3 := take 0; line 1; next 3
@@ -74,7 +74,7 @@ fn nb_reads(rt: HostRuntime) -> Result<(), Fail> {
     Ok(())
 }
 
-const NB_WRITES: &str = "thread starts [0] from 0 to 11 [b i u l ul b i u l ul]
+static NB_WRITES: &str = "thread starts [0] from 0 to 11 [b i u l ul b i u l ul]
 0: $3 := (l v0); line 1 counted; next 1
 1: free 0 else 4; line 1; next 2
 2: put 0 $3; line 1; next 3

@@ -12,7 +12,7 @@ use sqlite_items::{Boxed, Items};
 use std::alloc::{AllocError, Global};
 use std::test::Fail;
 
-const WHILES: &str = "thread starts [0] from 0 to 9 [b i u l ul b i u l ul]
+static WHILES: &str = "thread starts [0] from 0 to 9 [b i u l ul b i u l ul]
 0: v0 := 0i; line 1 counted; next 1
 1: test (< v0 9i) else 7; line 2 counted; next 2
 2: test v0 else 4; line 3 counted; next 3
@@ -49,7 +49,7 @@ fn searching(alloc: Global) -> Result<BoundStat, AllocError> {
     Ok(BoundStat::While(2, boxed(alloc, test)?, turn))
 }
 
-const FORS: &str = "thread starts [0] from 0 to 13 [b i u l ul b i u l ul i]
+static FORS: &str = "thread starts [0] from 0 to 13 [b i u l ul b i u l ul i]
 0: $10 := 0i; line 1 counted; next 1
 1: goto; line 1; next 6
 2: available 0 else 3; line 1 counted; next 4
@@ -99,7 +99,7 @@ fn counting(alloc: Global) -> Result<BoundStat, AllocError> {
     Ok(BoundStat::For(1, begins, Some(boxed(alloc, test)?), Some(step), turn))
 }
 
-const DOS: &str = "thread starts [0] from 0 to 7 [b i u l ul b i u l ul]
+static DOS: &str = "thread starts [0] from 0 to 7 [b i u l ul b i u l ul]
 0: test v0 else 2; line 2 counted; next 1
 1: goto; line 2 counted; next 3
 2: v0 := 1i; line 3 counted; next 3
@@ -129,7 +129,7 @@ fn dos(rt: HostRuntime) -> Result<(), Fail> {
     Ok(())
 }
 
-const CLOCK: &str = "thread starts [0] from 0 to 6 [b i u l ul b i u l ul]
+static CLOCK: &str = "thread starts [0] from 0 to 6 [b i u l ul b i u l ul]
 0: s1 := 1b; line 1 counted; next 1
 1: wait =5000 []; line 1 counted; next 2
 2: s1 := 0b; line 1 counted; next 3

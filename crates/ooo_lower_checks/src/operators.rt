@@ -6,7 +6,7 @@ use ooo_value::Kind;
 use sqlite_items::Items;
 use std::test::Fail;
 
-const OPERATORS: &str = "thread starts [0] from 0 to 5 [b i u l ul b i u l ul]
+static OPERATORS: &str = "thread starts [0] from 0 to 5 [b i u l ul b i u l ul]
 0: v0 := (i (<< s1 0i)); line 1 counted; next 1
 1: v0 := (i (? s1 (l v0) (l 1i))); line 2 counted; next 2
 2: v0 := (i (&& changed 1 rise 1)); line 3 counted; next 3

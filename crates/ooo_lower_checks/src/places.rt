@@ -22,7 +22,7 @@ fn one(alloc: Global) -> Result<BoundFunction, AllocError> {
     })
 }
 
-const LOOP: &str = "thread starts [0] from 0 to 11 [b i u l ul b i u l ul i i]
+static LOOP: &str = "thread starts [0] from 0 to 11 [b i u l ul b i u l ul i i]
 0: goto; line 1; next 5
 1: goto; line 2 counted; next 2
 2: $10 := 0i; line 2; next 3
@@ -57,7 +57,7 @@ fn calls_in_a_loop(rt: HostRuntime) -> Result<(), Fail> {
     Ok(())
 }
 
-const PROCESSES: &str = "thread starts [0] from 0 to 4 [b i u l ul b i u l ul]
+static PROCESSES: &str = "thread starts [0] from 0 to 4 [b i u l ul b i u l ul]
 method waits [0] from 4 to 8 [b i u l ul b i u l ul]
 0: test v0 else 2; line 1 counted; next 1
 1: goto; line 1 counted; next 3

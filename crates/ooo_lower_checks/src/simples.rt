@@ -6,7 +6,7 @@ use ooo_value::{Kind, Op, Value};
 use sqlite_items::Items;
 use std::test::Fail;
 
-const ASSIGNMENTS: &str = "thread starts [0] from 0 to 6 [b i u l ul b i u l ul i l l]
+static ASSIGNMENTS: &str = "thread starts [0] from 0 to 6 [b i u l ul b i u l ul i l l]
 0: $10 := 5i; line 1 counted; next 1
 1: $12 := (l $10); line 2 counted; next 2
 2: v0 := 7i; line 3 counted; next 3

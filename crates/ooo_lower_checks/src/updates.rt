@@ -17,7 +17,7 @@ fn update(
     simple(alloc, line, BoundSimple::Update(target, op, value))
 }
 
-const UPDATES: &str = "thread starts [0] from 0 to 9 [b i u l ul b i u l ul i]
+static UPDATES: &str = "thread starts [0] from 0 to 9 [b i u l ul b i u l ul i]
 0: $1 := v0; line 1 counted; next 1
 1: $6 := $10; line 1; next 2
 2: v1[$6] := (l (+ v1[$6] $1)); line 1; next 3

@@ -1,4 +1,4 @@
-//! Small designs, drawn up node by node, each with its tables worked out by hand: the constant before a test has those of the
+//! Small designs, drawn up node by node, each with its tables worked out by hand: the text before a test has those of the
 //! design that the test draws up.
 
 use crate::sketch::{FIFO, Part, SIGNAL, Sketch, Step, thread};
@@ -6,7 +6,7 @@ use crate::texts::told;
 use ooo_value::{BoundEvent, ProcessKind};
 use std::test::Fail;
 
-const A_WAIT_IN_EACH_BRANCH: &str = "segment 0: process 0 start; nodes 0 1 3
+static A_WAIT_IN_EACH_BRANCH: &str = "segment 0: process 0 start; nodes 0 1 3
 segment 1: process 0 after 1; nodes 2 5 6
 segment 2: process 0 after 3; nodes 4 5 6
 access 0; reads 0
@@ -45,7 +45,7 @@ fn a_wait_in_each_branch(rt: HostRuntime) -> Result<(), Fail> {
     Ok(())
 }
 
-const LOOPS_WITH_AND_WITHOUT_A_WAIT: &str = "segment 0: process 0 start; nodes 0 1
+static LOOPS_WITH_AND_WITHOUT_A_WAIT: &str = "segment 0: process 0 start; nodes 0 1
 segment 1: process 0 after 1; nodes 0 1
 segment 2: process 1 start; nodes 2 3 4 5
 segment 3: process 1 after 5; nodes 6
@@ -89,7 +89,7 @@ fn loops_with_and_without_a_wait(rt: HostRuntime) -> Result<(), Fail> {
     Ok(())
 }
 
-const A_METHOD_WITH_NEXT_TRIGGER: &str = "segment 0: process 0 start; nodes 0 1 2
+static A_METHOD_WITH_NEXT_TRIGGER: &str = "segment 0: process 0 start; nodes 0 1 2
 segment 1: process 1 start; nodes 3 4
 segment 2: process 2 start; nodes 5 6
 access 0; writes 0; waits 0 1
@@ -144,7 +144,7 @@ fn a_method_with_next_trigger(rt: HostRuntime) -> Result<(), Fail> {
     Ok(())
 }
 
-const NOTIFIED_IN_CONSTANT_AND_VARIABLE_TIME: &str = "segment 0: process 0 start; nodes 0 1
+static NOTIFIED_IN_CONSTANT_AND_VARIABLE_TIME: &str = "segment 0: process 0 start; nodes 0 1
 segment 1: process 0 after 1; nodes 2 3
 segment 2: process 1 start; nodes 4
 segment 3: process 1 after 4; nodes 4 5
@@ -207,7 +207,7 @@ fn notified_in_constant_and_variable_time(rt: HostRuntime) -> Result<(), Fail> {
     Ok(())
 }
 
-const BOTH_ENDS_IN_ONE_PROCESS: &str = "segment 0: process 0 start; nodes 0 1 2 3 4 5 6
+static BOTH_ENDS_IN_ONE_PROCESS: &str = "segment 0: process 0 start; nodes 0 1 2 3 4 5 6
 segment 1: process 0 after 2; nodes 0 1 2 3 4 5 6
 segment 2: process 0 after 5; nodes 3 4 5 6
 access 0; takes 0; puts 0; notifies 0 1
@@ -250,7 +250,7 @@ fn both_ends_in_one_process(rt: HostRuntime) -> Result<(), Fail> {
     Ok(())
 }
 
-const A_FIFO_AND_A_SIGNAL_BETWEEN_PROCESSES: &str = "segment 0: process 0 start; nodes 0 1 2 3 4
+static A_FIFO_AND_A_SIGNAL_BETWEEN_PROCESSES: &str = "segment 0: process 0 start; nodes 0 1 2 3 4
 segment 1: process 0 after 2; nodes 0 1 2 3 4
 segment 2: process 1 start; nodes 5 6 7 8 9
 segment 3: process 1 after 7; nodes 5 6 7 8 9
@@ -328,7 +328,7 @@ fn a_fifo_and_a_signal_between_processes(rt: HostRuntime) -> Result<(), Fail> {
     Ok(())
 }
 
-const A_SIGNAL_WRITTEN_WHILE_A_SLOWER_THREAD_READS: &str = "segment 0: process 0 start; nodes 0
+static A_SIGNAL_WRITTEN_WHILE_A_SLOWER_THREAD_READS: &str = "segment 0: process 0 start; nodes 0
 segment 1: process 0 after 0; nodes 1 2
 segment 2: process 1 start; nodes 3 4
 segment 3: process 1 after 4; nodes 5 6
@@ -372,7 +372,7 @@ fn a_signal_written_while_a_slower_thread_reads(rt: HostRuntime) -> Result<(), F
     Ok(())
 }
 
-const A_ZERO_WAIT: &str = "segment 0: process 0 start; nodes 0
+static A_ZERO_WAIT: &str = "segment 0: process 0 start; nodes 0
 segment 1: process 0 after 0; nodes 1
 segment 2: process 0 after 1; nodes 2
 segment 3: process 0 after 2; nodes 3
@@ -419,7 +419,7 @@ fn a_zero_wait(rt: HostRuntime) -> Result<(), Fail> {
     Ok(())
 }
 
-const TWO_WALKS_OF_ONE_SUM: &str = "segment 0: process 0 start; nodes 0 1 3
+static TWO_WALKS_OF_ONE_SUM: &str = "segment 0: process 0 start; nodes 0 1 3
 segment 1: process 0 after 1; nodes 2
 segment 2: process 0 after 2; nodes 5
 segment 3: process 0 after 3; nodes 4
@@ -474,7 +474,7 @@ fn two_walks_of_one_sum(rt: HostRuntime) -> Result<(), Fail> {
     Ok(())
 }
 
-const A_WALK_BEYOND_THE_GREATEST_TIME: &str = "segment 0: process 0 start; nodes 0
+static A_WALK_BEYOND_THE_GREATEST_TIME: &str = "segment 0: process 0 start; nodes 0
 segment 1: process 0 after 0; nodes 1 2 3
 segment 2: process 0 after 2; nodes 4
 segment 3: process 0 after 3; nodes 4
@@ -516,7 +516,7 @@ fn a_walk_beyond_the_greatest_time(rt: HostRuntime) -> Result<(), Fail> {
     Ok(())
 }
 
-const A_CYCLE_OF_ZERO_TIME: &str = "segment 0: process 0 start; nodes 0 1
+static A_CYCLE_OF_ZERO_TIME: &str = "segment 0: process 0 start; nodes 0 1
 segment 1: process 0 after 1; nodes 0 1
 segment 2: process 1 start; nodes 2 3
 segment 3: process 1 after 3; nodes 2 3
@@ -558,7 +558,7 @@ fn a_cycle_of_zero_time(rt: HostRuntime) -> Result<(), Fail> {
     Ok(())
 }
 
-const A_CANCEL_AND_AN_ELEMENT: &str = "segment 0: process 0 start; nodes 0 1
+static A_CANCEL_AND_AN_ELEMENT: &str = "segment 0: process 0 start; nodes 0 1
 segment 1: process 0 after 1; nodes 2 3
 segment 2: process 1 start; nodes 4 5 6
 access 0; cancels 1; waits 0

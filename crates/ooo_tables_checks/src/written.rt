@@ -38,7 +38,7 @@ fn is_written(
     Ok(())
 }
 
-const TWO_THREADS: &str = "segment 0 m.a start
+static TWO_THREADS: &str = "segment 0 m.a start
 segment 1 m.a 4
 segment 2 m.b start
 segment 3 m.b 5
@@ -89,7 +89,7 @@ fn writes_the_tables_of_two_threads(rt: HostRuntime) -> Result<(), Fail> {
     )
 }
 
-const A_FIFO_AND_A_CLOCK: &str = "segment 0 m.producer start
+static A_FIFO_AND_A_CLOCK: &str = "segment 0 m.producer start
 segment 1 m.producer 8
 segment 2 m.producer 9
 segment 3 m.consumer start
