@@ -1,12 +1,12 @@
 //! What the worked rows leave out of the calls of a board: which steps are refused, abandoned jobs, and the schedule.
 
 use crate::lines::Line::{
-    Allowed, Front, Holder, Holds, IsLost, IsOver, Makes, Picks, Refuses, Running,
+    self, Allowed, Front, Holder, Holds, IsLost, IsOver, Makes, Picks, Refuses, Running,
 };
-use crate::lines::first_wrong;
 use crate::rows::Row;
-use crate::trial::Trial;
 use ooo_dispatch::Step::{self, Abandon, Commit, Dispatch};
+use std::alloc::Global;
+use std::process::Abort;
 use std::test::Fail;
 
 // Whether two steps are the same.
@@ -18,13 +18,28 @@ fn is_same(one: Step, other: Step) -> bool {
 }
 
 // Whether these are the steps that were made.
-fn has_made(trial: &Trial, steps: &[Step]) -> bool {
-    let made = trial.board.schedule();
+fn are_same(made: &[Step], steps: &[Step]) -> bool {
     made.len() == steps.len()
         && made
             .iter()
             .zip(steps)
             .all(|(one, other)| is_same(*one, *other))
+}
+
+// The board of a row does all this, by these steps.
+fn makes(
+    rt: &impl Abort,
+    alloc: Global,
+    row: Row,
+    lines: &[Line],
+    steps: &[Step],
+) -> Result<(), Fail> {
+    let Some(seen) = row.tried(alloc, lines)? else {
+        panic!(rt; "the text is refused")
+    };
+    assert_eq!(rt; seen.wrong, None);
+    assert!(rt; are_same(&seen.made, steps));
+    Ok(())
 }
 
 // Three jobs, each committed before the next one is dispatched.
@@ -70,15 +85,8 @@ static OUT_UNTIL_COMMIT: [Line; 27] = [
 
 #[test]
 fn a_job_is_out_until_its_commit(rt: HostRuntime) -> Result<(), Fail> {
-    let alloc = rt.alloc();
-    let Some(sample) = Row::SecondThreadFirst.sample(alloc)? else {
-        panic!(rt; "the text is refused")
-    };
-    let mut trial = Trial::make(alloc, &sample)?;
-    let wrong = first_wrong(alloc, &mut trial, &OUT_UNTIL_COMMIT)?;
-    assert_eq!(rt; wrong, None);
-    assert!(rt; has_made(&trial, &ONE_AFTER_ANOTHER));
-    Ok(())
+    let row = Row::SecondThreadFirst;
+    makes(&rt, rt.alloc(), row, &OUT_UNTIL_COMMIT, &ONE_AFTER_ANOTHER)
 }
 
 // Once a job is abandoned nothing is dispatched, and the board never is over; another job can be committed.
@@ -103,14 +111,6 @@ static ABANDONED: [Line; 16] = [
 
 #[test]
 fn an_abandoned_job_is_lost(rt: HostRuntime) -> Result<(), Fail> {
-    let alloc = rt.alloc();
-    let Some(sample) = Row::VariableAhead.sample(alloc)? else {
-        panic!(rt; "the text is refused")
-    };
-    let mut trial = Trial::make(alloc, &sample)?;
-    let wrong = first_wrong(alloc, &mut trial, &ABANDONED)?;
-    assert_eq!(rt; wrong, None);
     let steps = [Dispatch(0), Dispatch(1), Abandon(0), Commit(1)];
-    assert!(rt; has_made(&trial, &steps));
-    Ok(())
+    makes(&rt, rt.alloc(), Row::VariableAhead, &ABANDONED, &steps)
 }

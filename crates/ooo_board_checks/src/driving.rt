@@ -49,8 +49,13 @@ fn told_in_order(alloc: Global, sample: &Sample, seed: u32) -> Result<Option<Vec
     requires { IsReady sample.now }
 {
     let mut trial = Trial::make(alloc, sample)?;
-    drive(alloc, &mut trial, seed)?;
-    trial.report(alloc, &sample.names)
+    let driven = drive(alloc, &mut trial, seed);
+    let report = trial.report(alloc, &sample.names);
+    drop(trial);
+    match driven {
+        Ok(()) => report,
+        Err(error) => Err(error),
+    }
 }
 
 // Makes lawful steps in an order drawn from a seed, with any number of jobs out at once, until there is none or too many were

@@ -1,7 +1,9 @@
 //! What a board is to do and to answer, line by line.
 
+ghost use Rattle.ooo_board_checks.specs.Samples.{IsReady};
 ghost use Rattle.ooo_board_checks.specs.Trials.{AreHeld};
 
+use crate::sample::Sample;
 use crate::trial::Trial;
 use ooo_dispatch::Step;
 use ooo_fronts::{Front, Hold};
@@ -24,8 +26,35 @@ pub(crate) enum Line {
     IsLost(bool),
 }
 
-/// The number of the first of these lines that isn't so, if any is not.
-pub(crate) fn first_wrong(
+/// What is seen of a board that did what lines say.
+#[derive(Drop)]
+pub(crate) struct Seen {
+    /// The number of the first line that isn't so, if any is not. Those after it were not tried.
+    pub(crate) wrong: Option<usize>,
+    /// The steps that the board says were made.
+    pub(crate) made: Vec<Step>,
+    /// What it reports then.
+    pub(crate) report: Option<Vec<u8>>,
+}
+
+/// A board of a sample, with these lines tried on it one after the other.
+pub(crate) fn tried(alloc: Global, sample: &Sample, lines: &[Line]) -> Result<Seen, AllocError>
+    requires { IsReady sample.now }
+{
+    let mut trial = Trial::make(alloc, sample)?;
+    let wrong = first_wrong(alloc, &mut trial, lines);
+    let made = Vec::from_slice(alloc, trial.board.schedule());
+    let report = trial.report(alloc, &sample.names);
+    drop(trial);
+    Ok(Seen {
+        wrong: wrong?,
+        made: made?,
+        report: report?,
+    })
+}
+
+// The number of the first of these lines that isn't so, if any is not.
+fn first_wrong(
     alloc: Global,
     trial: &mut Trial,
     lines: &[Line],

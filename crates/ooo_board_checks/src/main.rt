@@ -35,7 +35,9 @@ fn main(rt: HostRuntime) -> Result<()> {
     let Some(sample) = Sample::make(alloc, &text, options)? else {
         bail!("the text is refused, or has no stop time");
     };
-    match told_in_orders(alloc, &sample, orders)? {
+    let told = told_in_orders(alloc, &sample, orders);
+    drop(sample);
+    match told? {
         Told::Same(report) => Ok(rt.stdout().write_all(&report)?),
         Told::Differs(seed) => bail!(
             "the order of seed {seed} came to no end, or gave another report"

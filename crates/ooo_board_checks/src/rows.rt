@@ -3,6 +3,7 @@
 ghost use Rattle.std.specs.Prelude.{IfOk, IfSome};
 ghost use Rattle.ooo_board_checks.specs.Samples.{IsReady};
 
+use crate::lines::{Line, Seen, tried};
 use crate::sample::Sample;
 use ooo_words::RunOptions;
 use std::alloc::{AllocError, Global};
@@ -50,6 +51,16 @@ impl Row {
         ensures { IfOk result (λ sample. IfSome sample IsReady) }
     {
         Sample::make(alloc, self.text(), BY_DEFAULT)
+    }
+
+    /// What is seen of its board once these lines were tried on it, if the text is accepted.
+    pub(crate) fn tried(self, alloc: Global, lines: &[Line]) -> Result<Option<Seen>, AllocError> {
+        let Some(sample) = self.sample(alloc)? else {
+            return Ok(None);
+        };
+        let seen = tried(alloc, &sample, lines);
+        drop(sample);
+        Ok(Some(seen?))
     }
 
     fn text(self) -> &'static [u8] {

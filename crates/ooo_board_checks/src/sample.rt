@@ -42,10 +42,10 @@ impl Sample {
         };
         let Accepted { bound, design, .. } = accepted;
         let Bound { names, stop, .. } = bound;
+        let design = Arc::new(alloc, design)?;
         let Some(limits) = limits_of(options, stop) else {
             return Ok(None);
         };
-        let design = Arc::new(alloc, design)?;
         Ok(Some(Sample {
             design,
             names,

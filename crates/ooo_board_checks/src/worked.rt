@@ -2,9 +2,7 @@
 
 use crate::driving::{Told, told_in_orders};
 use crate::lines::Line::{self, Allowed, Front, Holder, Holds, IsOver, Makes, Picks, Refuses};
-use crate::lines::first_wrong;
 use crate::rows::Row;
-use crate::trial::Trial;
 use ooo_dispatch::Step::{Commit, Dispatch};
 use ooo_fronts::Hold;
 use ooo_time::{Stamp, Time};
@@ -17,14 +15,11 @@ const ORDERS: u32 = 2000;
 
 // The board of a row does all this, and then has the row's report.
 fn follows(rt: &impl Abort, alloc: Global, row: Row, lines: &[Line]) -> Result<(), Fail> {
-    let Some(sample) = row.sample(alloc)? else {
+    let Some(seen) = row.tried(alloc, lines)? else {
         panic!(rt; "{row:?}: the text is refused")
     };
-    let mut trial = Trial::make(alloc, &sample)?;
-    let wrong = first_wrong(alloc, &mut trial, lines)?;
-    assert_eq!(rt; wrong, None, "{row:?}");
-    let report = trial.report(alloc, &sample.names)?;
-    assert!(rt; is_text(&report, row.report()), "{row:?}");
+    assert_eq!(rt; seen.wrong, None, "{row:?}");
+    assert!(rt; is_text(&seen.report, row.report()), "{row:?}");
     Ok(())
 }
 

@@ -173,7 +173,10 @@ fn outcome(rt: &impl Abort, alloc: Global, source: &[u8]) -> Result<Vec<u8>, All
 // `ok`, or what is wrong with the names and types of a text.
 fn checked(alloc: Global, unit: Unit) -> Result<Vec<u8>, AllocError> {
     match check(alloc, unit) {
-        Ok(_) => Vec::from_slice(alloc, b"ok"),
+        Ok(tree) => {
+            drop(tree);
+            Vec::from_slice(alloc, b"ok")
+        }
         Err(TypeError::Refused(breach, at)) => refused(alloc, breach.name(), at),
         Err(TypeError::OutOfMemory) => Err(AllocError),
     }

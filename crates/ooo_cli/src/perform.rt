@@ -31,7 +31,8 @@ pub fn perform<I: Read + Drop, O: Write>(
     let mut tail = Tail::new(output);
     let mut source = ReadSource::new(&mut text);
     let mut sink = WriteSink::new(&mut tail);
-    let (outcome, _board) = simulate(rt, alloc, words, &mut source, &mut sink, &OpenGate);
+    let (outcome, board) = simulate(rt, alloc, words, &mut source, &mut sink, &OpenGate);
+    drop(board);
     let seen = Seen {
         source: text.kept(),
         last: tail.last(),

@@ -63,9 +63,11 @@ fn call<G: Gate>(
     let mut source = MemorySource::new(text, MOST, vec![in alloc; failing.read]?);
     let mut sink = MemorySink::make(alloc, 4096, MOST, vec![in alloc; failing.write]?)?;
     let (outcome, board) = simulate(rt, alloc, &given, &mut source, &mut sink, gate);
+    let has_board = board.is_some();
+    drop(board);
     Ok(Called {
         status: outcome.number(),
-        has_board: board.is_some(),
+        has_board,
         held: Vec::from_slice(alloc, sink.held())?,
     })
 }

@@ -8,7 +8,7 @@ ghost use Rattle.ooo_workers.specs.Passes.{Has, Stepped};
 
 use ooo_board::Board;
 use ooo_code::Limits;
-use ooo_front::front;
+use ooo_front::{Accepted, front};
 use ooo_interp::{Job, run_segment};
 use ooo_tables::Tables;
 use ooo_time::Time;
@@ -61,9 +61,21 @@ fn board_of(alloc: Global, text: &[u8]) -> Result<Option<Board>, AllocError>
     let Ok(accepted) = front(alloc, text) else {
         return Ok(None);
     };
-    let tables = Tables::make(alloc, &accepted.design)?;
-    let design = Arc::new(alloc, accepted.design)?;
-    Ok(Some(Board::make(alloc, design, tables, LIMITS)?))
+    let Accepted { design, .. } = accepted;
+    let tables = Tables::make(alloc, &design);
+    let design = Arc::new(alloc, design);
+    let tables = tables?;
+    let design = match design {
+        Ok(design) => design,
+        Err(error) => {
+            drop(tables);
+            return Err(error.into());
+        }
+    };
+    match Board::make(alloc, design, tables, LIMITS) {
+        Ok(board) => Ok(Some(board)),
+        Err(error) => Err(error),
+    }
 }
 
 // Runs a job and hands in what it gave.
@@ -121,11 +133,20 @@ fn two_jobs_are_out_together(rt: HostRuntime) -> Result<(), Fail> {
         panic!(rt; "no job for the second pass")
     };
     assert!(rt; job.process == 0 && other.process == 1);
-    hand_in(&rt, rt.alloc(), &yard, &mut first, job)?;
-    hand_in(&rt, rt.alloc(), &yard, &mut second, other)?;
+    let one = hand_in(&rt, rt.alloc(), &yard, &mut first, job);
+    let two = hand_in(&rt, rt.alloc(), &yard, &mut second, other);
+    one?;
+    two?;
     assert!(rt; do_one(&rt, rt.alloc(), &yard, &mut first)? == Some((1, Time(5_000))));
     assert!(rt; matches!(yard.take(&rt, &mut first)?, Turn::Over));
     Ok(())
+}
+
+// Whether a board is lost, and not over.
+fn is_lost_alone(board: Board) -> bool {
+    let is_lost_alone = board.is_lost() && !board.is_over();
+    drop(board);
+    is_lost_alone
 }
 
 #[test]
@@ -141,8 +162,7 @@ fn an_abandoned_job_loses_the_board(rt: HostRuntime) -> Result<(), Fail> {
     yard.abandon(&rt, &mut first);
     assert!(rt; matches!(yard.take(&rt, &mut first)?, Turn::Lost));
     passes.push(first)?;
-    let board = yard.close(passes);
-    assert!(rt; board.is_lost() && !board.is_over());
+    assert!(rt; is_lost_alone(yard.close(passes)));
     Ok(())
 }
 

@@ -74,14 +74,36 @@ fn update(alloc: Global) -> Result<CheckedStat, AllocError> {
 
 // while (p.negedge()) wait(10, SC_NS);
 fn loop_on_edge(alloc: Global) -> Result<CheckedStat, AllocError> {
+    match (edge(alloc), waiting(alloc)) {
+        (Ok(test), Ok(body)) => Ok(CheckedStat::While(at(4), test, body)),
+        _ => Err(AllocError),
+    }
+}
+
+// p.negedge()
+fn edge(alloc: Global) -> Result<Boxed<CheckedExpr>, AllocError> {
+    let method = word(alloc, 4)?;
     let port = Thing::SignalPort(Direction::In, Kind::Bool);
     let name = resolved(alloc, 4, port, 0)?;
-    let test = CheckedExpr::Member(Kind::Bool, name, word(alloc, 4)?, Method::Negedge, None);
+    let test = CheckedExpr::Member(Kind::Bool, name, method, Method::Negedge, None);
+    Boxed::new(alloc, test)
+}
+
+// wait(10, SC_NS);
+fn waiting(alloc: Global) -> Result<Boxed<CheckedStat>, AllocError> {
     let delay = CheckedTime::Amount(number(5, Value::Int(10)), Scale::Ns);
     let wait = CheckedSimple::Wait(at(5), CheckedAwaited::Delay(delay));
     let wait = Boxed::new(alloc, wait)?;
-    let body = Boxed::new(alloc, CheckedStat::Simple(wait))?;
-    Ok(CheckedStat::While(at(4), Boxed::new(alloc, test)?, body))
+    Boxed::new(alloc, CheckedStat::Simple(wait))
+}
+
+// The three statements.
+fn body(alloc: Global) -> Result<Items<CheckedStat>, AllocError> {
+    let mut body = Items::new(alloc);
+    body.push(declaration(alloc)?)?;
+    body.push(update(alloc)?)?;
+    body.push(loop_on_edge(alloc)?)?;
+    Ok(body)
 }
 
 #[test]
@@ -92,10 +114,7 @@ fn names_become_numbers(rt: HostRuntime) -> Result<(), Fail> {
         ports: &PORTS,
         events: &[],
     };
-    let mut body = Items::new(rt.alloc());
-    body.push(declaration(rt.alloc())?)?;
-    body.push(update(rt.alloc())?)?;
-    body.push(loop_on_edge(rt.alloc())?)?;
+    let body = body(rt.alloc())?;
     let all = stats(rt.alloc(), numbers, body.as_slice())?;
     assert_eq!(rt; all.len(), 3);
     assert!(rt; is_declaration(all.get(0)));

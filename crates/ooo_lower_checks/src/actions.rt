@@ -1,6 +1,6 @@
 //! Prints, waits, triggers, and what is done to events and the run.
 
-use crate::making::{process, simple, told_process, told_thread};
+use crate::making::{Made, empty, no_functions, process, simple, told_process, told_thread, with};
 use ooo_bound::{BoundExpr, BoundItem, BoundSimple, BoundTime, BoundWait};
 use ooo_time::{Scale, Time};
 use ooo_value::{Name, ProcessKind};
@@ -17,31 +17,38 @@ static PRINTS: &str = "thread starts [0] from 0 to 6 [b i u l ul b i u l ul]
 5: end; line 0; next 5
 ";
 
-// A print of a value, a text and the time, and one of nothing.
-#[test]
-fn prints(rt: HostRuntime) -> Result<(), Fail> {
-    let alloc = rt.alloc();
+// A value, a text and the time.
+fn items(alloc: Global) -> Made<Items<BoundItem>> {
     let text = Name::new(alloc, "x\n")?;
     let mut items = Items::new(alloc);
     items.push(BoundItem::Value(BoundExpr::Variable(0)))?;
     items.push(BoundItem::Text(text))?;
     items.push(BoundItem::Time)?;
-    let mut body = Items::new(alloc);
-    body.push(simple(alloc, 1, BoundSimple::Print(items))?)?;
-    body.push(simple(alloc, 2, BoundSimple::Print(Items::new(alloc)))?)?;
-    let text = told_thread(alloc, body, Items::new(alloc))?;
+    Ok(items)
+}
+
+// A print of a value, a text and the time, and one of nothing.
+#[test]
+fn prints(rt: HostRuntime) -> Result<(), Fail> {
+    let alloc = rt.alloc();
+    let first = simple(alloc, 1, BoundSimple::Print(items(alloc)?));
+    let second = simple(alloc, 2, BoundSimple::Print(Items::new(alloc)));
+    let body = with(with(empty(alloc), first), second);
+    let text = told_thread(alloc, body, no_functions(alloc))?;
     assert!(rt; text.as_slice() == PRINTS.as_bytes());
     Ok(())
 }
 
 // What is waited for: a time and events.
-fn on(alloc: Global, time: BoundTime, events: &[u32]) -> Result<BoundWait, AllocError> {
-    let events = Items::from_slice(alloc, events)?;
-    Ok(BoundWait {
-        time: Some(time),
-        events,
-        is_static: false,
-    })
+fn on(alloc: Global, time: BoundTime, events: &[u32]) -> Made<BoundWait> {
+    match Items::from_slice(alloc, events) {
+        Ok(events) => Ok(BoundWait {
+            time: Some(time),
+            events,
+            is_static: false,
+        }),
+        Err(_) => Err(AllocError),
+    }
 }
 
 // The static events.
@@ -68,14 +75,13 @@ fn waits(rt: HostRuntime) -> Result<(), Fail> {
     let alloc = rt.alloc();
     let time = BoundTime::Amount(BoundExpr::Variable(0), Scale::Ns);
     let wait = on(alloc, time, &[4, 0])?;
-    let mut body = Items::new(alloc);
-    body.push(simple(alloc, 1, BoundSimple::Wait(wait))?)?;
-    body.push(simple(alloc, 2, BoundSimple::Wait(on_static(alloc)))?)?;
     let seven = BoundTime::Fixed(Time(7));
-    body.push(simple(alloc, 3, BoundSimple::Notify(0, seven))?)?;
-    body.push(simple(alloc, 4, BoundSimple::Cancel(0))?)?;
-    body.push(simple(alloc, 5, BoundSimple::Stop)?)?;
-    let text = told_thread(alloc, body, Items::new(alloc))?;
+    let body = with(empty(alloc), simple(alloc, 1, BoundSimple::Wait(wait)));
+    let body = with(body, simple(alloc, 2, BoundSimple::Wait(on_static(alloc))));
+    let body = with(body, simple(alloc, 3, BoundSimple::Notify(0, seven)));
+    let body = with(body, simple(alloc, 4, BoundSimple::Cancel(0)));
+    let body = with(body, simple(alloc, 5, BoundSimple::Stop));
+    let text = told_thread(alloc, body, no_functions(alloc))?;
     assert!(rt; text.as_slice() == WAITS.as_bytes());
     Ok(())
 }
@@ -91,11 +97,11 @@ static TRIGGERS: &str = "method waits [0] from 0 to 3 [b i u l ul b i u l ul]
 fn triggers(rt: HostRuntime) -> Result<(), Fail> {
     let alloc = rt.alloc();
     let trigger = on(alloc, BoundTime::Fixed(Time(3)), &[5])?;
-    let mut body = Items::new(alloc);
-    body.push(simple(alloc, 1, BoundSimple::NextTrigger(trigger))?)?;
-    body.push(simple(alloc, 2, BoundSimple::NextTrigger(on_static(alloc)))?)?;
-    let method = process(alloc, ProcessKind::Method, false, body)?;
-    let text = told_process(alloc, method, Items::new(alloc))?;
+    let first = simple(alloc, 1, BoundSimple::NextTrigger(trigger));
+    let second = simple(alloc, 2, BoundSimple::NextTrigger(on_static(alloc)));
+    let body = with(with(empty(alloc), first), second);
+    let method = process(alloc, ProcessKind::Method, false, body);
+    let text = told_process(alloc, method, no_functions(alloc))?;
     assert!(rt; text.as_slice() == TRIGGERS.as_bytes());
     Ok(())
 }

@@ -1,9 +1,11 @@
 //! Branches.
 
-use crate::making::{int, nothing, only_if, pair, set, store, told_thread};
+use crate::making::{
+    Made, boxed, empty, inner, int, no_functions, nothing, only_if, pair, set, store, told_thread,
+    with,
+};
 use ooo_bound::{BoundExpr, BoundStat, BoundTarget};
 use ooo_value::Kind;
-use sqlite_items::{Boxed, Items};
 use std::alloc::{AllocError, Global};
 use std::test::Fail;
 
@@ -12,13 +14,13 @@ fn one_of(
     alloc: Global,
     line: u32,
     test: BoundExpr,
-    yes: BoundStat,
-    no: BoundStat,
-) -> Result<BoundStat, AllocError> {
-    let test = Boxed::new(alloc, test)?;
-    let yes = Boxed::new(alloc, yes)?;
-    let no = Boxed::new(alloc, no)?;
-    Ok(BoundStat::If(line, test, yes, Some(no)))
+    yes: Made<BoundStat>,
+    no: Made<BoundStat>,
+) -> Made<BoundStat> {
+    match (boxed(alloc, test), inner(alloc, yes), inner(alloc, no)) {
+        (Ok(test), Ok(yes), Ok(no)) => Ok(BoundStat::If(line, test, yes, Some(no))),
+        _ => Err(AllocError),
+    }
 }
 
 static BRANCHES: &str = "thread starts [0] from 0 to 8 [b i u l ul b i u l ul b]
@@ -36,14 +38,19 @@ static BRANCHES: &str = "thread starts [0] from 0 to 8 [b i u l ul b i u l ul b]
 #[test]
 fn branches(rt: HostRuntime) -> Result<(), Fail> {
     let alloc = rt.alloc();
-    let mut body = Items::new(alloc);
-    let no = pair(alloc, store(alloc, 3, 2)?, store(alloc, 4, 3)?)?;
-    body.push(one_of(alloc, 1, BoundExpr::Variable(0), store(alloc, 2, 1)?, no)?)?;
-    let yes = set(alloc, 6, BoundTarget::Local(Kind::Bool, 0), int(1))?;
-    body.push(only_if(alloc, 5, BoundExpr::Signal(1), yes)?)?;
-    let (yes, no) = (nothing(alloc), nothing(alloc));
-    body.push(one_of(alloc, 7, BoundExpr::Variable(0), yes, no)?)?;
-    let text = told_thread(alloc, body, Items::new(alloc))?;
+    let no = pair(alloc, store(alloc, 3, 2), store(alloc, 4, 3));
+    let first = one_of(alloc, 1, BoundExpr::Variable(0), store(alloc, 2, 1), no);
+    let yes = set(alloc, 6, BoundTarget::Local(Kind::Bool, 0), int(1));
+    let second = only_if(alloc, 5, BoundExpr::Signal(1), yes);
+    let third = one_of(
+        alloc,
+        7,
+        BoundExpr::Variable(0),
+        nothing(alloc),
+        nothing(alloc),
+    );
+    let body = with(with(with(empty(alloc), first), second), third);
+    let text = told_thread(alloc, body, no_functions(alloc))?;
     assert!(rt; text.as_slice() == BRANCHES.as_bytes());
     Ok(())
 }

@@ -1,6 +1,9 @@
 //! Calls.
 
-use crate::making::{binary, gives, int, local, only_if, returns, set, told_thread};
+use crate::making::{
+    Made, binary, empty, gives, int, local, no_functions, only_if, returns, set, told_thread, with,
+    with_function,
+};
 use ooo_bound::{BoundExpr, BoundFunction, BoundRight, BoundStat, BoundTarget};
 use ooo_value::{Kind, Op};
 use sqlite_items::Items;
@@ -14,10 +17,18 @@ fn call(
     into: BoundTarget,
     function: u32,
     argument: BoundExpr,
-) -> Result<BoundStat, AllocError> {
+) -> Made<BoundStat> {
+    match arguments(alloc, argument) {
+        Ok(arguments) => gives(alloc, line, into, BoundRight::Call(function, arguments)),
+        Err(_) => Err(AllocError),
+    }
+}
+
+// One argument.
+fn arguments(alloc: Global, argument: BoundExpr) -> Made<Items<BoundExpr>> {
     let mut arguments = Items::new(alloc);
     arguments.push(argument)?;
-    gives(alloc, line, into, BoundRight::Call(function, arguments))
+    Ok(arguments)
 }
 
 // A function.
@@ -25,14 +36,16 @@ fn function(
     alloc: Global,
     kind: Option<Kind>,
     params: &[Kind],
-    body: Items<BoundStat>,
-) -> Result<BoundFunction, AllocError> {
-    let params = Items::from_slice(alloc, params)?;
-    Ok(BoundFunction {
-        result: kind,
-        params,
-        body,
-    })
+    body: Made<Items<BoundStat>>,
+) -> Made<BoundFunction> {
+    match (Items::from_slice(alloc, params), body) {
+        (Ok(params), Ok(body)) => Ok(BoundFunction {
+            result: kind,
+            params,
+            body,
+        }),
+        _ => Err(AllocError),
+    }
 }
 
 static RESULT: &str = "thread starts [0] from 0 to 12 [b i u l ul b i u l ul l b b i]
@@ -50,30 +63,34 @@ static RESULT: &str = "thread starts [0] from 0 to 12 [b i u l ul b i u l ul l b
 11: end; line 0; next 11
 ";
 
+// Two arguments: a variable and 1, and a signal.
+fn sum_and_signal(alloc: Global) -> Made<Items<BoundExpr>> {
+    let sum = binary(alloc, Op::Add, BoundExpr::Variable(0), int(1))?;
+    let mut all = arguments(alloc, sum)?;
+    all.push(BoundExpr::Signal(1))?;
+    Ok(all)
+}
+
 // A call with two arguments and a result, of a function that returns from two places.
 #[test]
 fn a_result(rt: HostRuntime) -> Result<(), Fail> {
     let alloc = rt.alloc();
-    let mut functions = Items::new(alloc);
-    functions.push(first_or_three(alloc)?)?;
-    let mut arguments = Items::new(alloc);
-    arguments.push(binary(alloc, Op::Add, BoundExpr::Variable(0), int(1))?)?;
-    arguments.push(BoundExpr::Signal(1))?;
-    let right = BoundRight::Call(0, arguments);
-    let mut body = Items::new(alloc);
-    body.push(gives(alloc, 1, BoundTarget::Variable(0), right)?)?;
+    let right = BoundRight::Call(0, sum_and_signal(alloc)?);
+    let body = with(
+        empty(alloc),
+        gives(alloc, 1, BoundTarget::Variable(0), right),
+    );
+    let functions = with_function(no_functions(alloc), first_or_three(alloc));
     let text = told_thread(alloc, body, functions)?;
     assert!(rt; text.as_slice() == RESULT.as_bytes());
     Ok(())
 }
 
 // Its first argument, an int, where the second is true, and else 3, as a long long.
-fn first_or_three(alloc: Global) -> Result<BoundFunction, AllocError> {
-    let first = returns(alloc, 10, local(0))?;
+fn first_or_three(alloc: Global) -> Made<BoundFunction> {
     let second = BoundExpr::Local(Kind::Bool, 1);
-    let mut body = Items::new(alloc);
-    body.push(only_if(alloc, 10, second, first)?)?;
-    body.push(returns(alloc, 11, int(3))?)?;
+    let first = only_if(alloc, 10, second, returns(alloc, 10, local(0)));
+    let body = with(with(empty(alloc), first), returns(alloc, 11, int(3)));
     function(alloc, Some(Kind::Long), &[Kind::Int, Kind::Bool], body)
 }
 
@@ -96,27 +113,40 @@ static VOID: &str = "thread starts [0] from 0 to 12 [b i u l ul b i u l ul i u]
 #[test]
 fn a_void_function(rt: HostRuntime) -> Result<(), Fail> {
     let alloc = rt.alloc();
-    let mut functions = Items::new(alloc);
-    functions.push(unless_zero(alloc)?)?;
-    let mut body = Items::new(alloc);
-    body.push(set(alloc, 1, BoundTarget::Local(Kind::Int, 0), int(1))?)?;
-    body.push(call(alloc, 2, BoundTarget::Nothing, 0, int(-1))?)?;
-    let ends = BoundStat::Return(3, None);
-    body.push(only_if(alloc, 3, BoundExpr::Variable(0), ends)?)?;
-    body.push(set(alloc, 4, BoundTarget::Local(Kind::Int, 0), int(2))?)?;
+    let early = only_if(
+        alloc,
+        3,
+        BoundExpr::Variable(0),
+        Ok(BoundStat::Return(3, None)),
+    );
+    let body = with(
+        empty(alloc),
+        set(alloc, 1, BoundTarget::Local(Kind::Int, 0), int(1)),
+    );
+    let body = with(body, call(alloc, 2, BoundTarget::Nothing, 0, int(-1)));
+    let body = with(body, early);
+    let body = with(
+        body,
+        set(alloc, 4, BoundTarget::Local(Kind::Int, 0), int(2)),
+    );
+    let functions = with_function(no_functions(alloc), unless_zero(alloc));
     let text = told_thread(alloc, body, functions)?;
     assert!(rt; text.as_slice() == VOID.as_bytes());
     Ok(())
 }
 
 // Returns where its argument isn't 0, and else puts it into variable 0.
-fn unless_zero(alloc: Global) -> Result<BoundFunction, AllocError> {
-    let returns = BoundStat::Return(10, None);
-    let mut body = Items::new(alloc);
-    body.push(only_if(alloc, 10, BoundExpr::Local(Kind::Uint, 0), returns)?)?;
+fn unless_zero(alloc: Global) -> Made<BoundFunction> {
     let argument = BoundExpr::Local(Kind::Uint, 0);
-    body.push(set(alloc, 11, BoundTarget::Variable(0), argument)?)?;
-    function(alloc, None, &[Kind::Uint], body)
+    let early = only_if(alloc, 10, argument, Ok(BoundStat::Return(10, None)));
+    let argument = BoundExpr::Local(Kind::Uint, 0);
+    let last = set(alloc, 11, BoundTarget::Variable(0), argument);
+    function(
+        alloc,
+        None,
+        &[Kind::Uint],
+        with(with(empty(alloc), early), last),
+    )
 }
 
 static NESTED: &str = "thread starts [0] from 0 to 20 [b i u l ul b i u l ul i i i i i i i]
@@ -146,30 +176,26 @@ static NESTED: &str = "thread starts [0] from 0 to 20 [b i u l ul b i u l ul i i
 #[test]
 fn nested_calls(rt: HostRuntime) -> Result<(), Fail> {
     let alloc = rt.alloc();
-    let mut functions = Items::new(alloc);
-    functions.push(passes_on(alloc)?)?;
-    functions.push(one_more(alloc)?)?;
-    let mut body = Items::new(alloc);
-    body.push(call(alloc, 1, BoundTarget::Variable(0), 0, int(7))?)?;
-    body.push(call(alloc, 2, BoundTarget::Variable(0), 1, int(8))?)?;
-    let text = told_thread(alloc, body, functions)?;
+    let first = call(alloc, 1, BoundTarget::Variable(0), 0, int(7));
+    let second = call(alloc, 2, BoundTarget::Variable(0), 1, int(8));
+    let functions = with_function(no_functions(alloc), passes_on(alloc));
+    let functions = with_function(functions, one_more(alloc));
+    let text = told_thread(alloc, with(with(empty(alloc), first), second), functions)?;
     assert!(rt; text.as_slice() == NESTED.as_bytes());
     Ok(())
 }
 
 // What function 1 gives of its argument.
-fn passes_on(alloc: Global) -> Result<BoundFunction, AllocError> {
-    let mut body = Items::new(alloc);
+fn passes_on(alloc: Global) -> Made<BoundFunction> {
     let into = BoundTarget::Local(Kind::Int, 1);
-    body.push(call(alloc, 10, into, 1, local(0))?)?;
-    body.push(returns(alloc, 11, local(1))?)?;
+    let body = with(empty(alloc), call(alloc, 10, into, 1, local(0)));
+    let body = with(body, returns(alloc, 11, local(1)));
     function(alloc, Some(Kind::Int), &[Kind::Int], body)
 }
 
 // Its argument and one more.
-fn one_more(alloc: Global) -> Result<BoundFunction, AllocError> {
+fn one_more(alloc: Global) -> Made<BoundFunction> {
     let sum = binary(alloc, Op::Add, local(0), int(1))?;
-    let mut body = Items::new(alloc);
-    body.push(returns(alloc, 20, sum)?)?;
+    let body = with(empty(alloc), returns(alloc, 20, sum));
     function(alloc, Some(Kind::Int), &[Kind::Int], body)
 }

@@ -1,9 +1,8 @@
 //! Statements of fifos.
 
-use crate::making::{gives, local, simple, told_thread};
+use crate::making::{empty, gives, local, no_functions, simple, told_thread, with};
 use ooo_bound::{BoundExpr, BoundRight, BoundSimple, BoundTarget};
 use ooo_value::{Kind, Value};
-use sqlite_items::Items;
 use std::test::Fail;
 
 static BLOCKING: &str = "thread starts [0] from 0 to 13 [b i u l ul b i u l ul]
@@ -26,12 +25,18 @@ static BLOCKING: &str = "thread starts [0] from 0 to 13 [b i u l ul b i u l ul]
 #[test]
 fn blocking(rt: HostRuntime) -> Result<(), Fail> {
     let alloc = rt.alloc();
-    let mut body = Items::new(alloc);
+    let body = empty(alloc);
     let element = BoundTarget::Element(1, BoundExpr::Variable(0));
-    body.push(gives(alloc, 1, element, BoundRight::Read(0))?)?;
-    body.push(simple(alloc, 2, BoundSimple::Write(0, BoundExpr::Variable(0)))?)?;
-    body.push(gives(alloc, 3, BoundTarget::Nothing, BoundRight::Read(0))?)?;
-    let text = told_thread(alloc, body, Items::new(alloc))?;
+    let body = with(body, gives(alloc, 1, element, BoundRight::Read(0)));
+    let body = with(
+        body,
+        simple(alloc, 2, BoundSimple::Write(0, BoundExpr::Variable(0))),
+    );
+    let body = with(
+        body,
+        gives(alloc, 3, BoundTarget::Nothing, BoundRight::Read(0)),
+    );
+    let text = told_thread(alloc, body, no_functions(alloc))?;
     assert!(rt; text.as_slice() == BLOCKING.as_bytes());
     Ok(())
 }
@@ -62,14 +67,17 @@ static NB_READS: &str = "thread starts [0] from 0 to 19 [b i u l ul b i u l ul b
 #[test]
 fn nb_reads(rt: HostRuntime) -> Result<(), Fail> {
     let alloc = rt.alloc();
-    let mut body = Items::new(alloc);
+    let body = empty(alloc);
     let into = BoundRight::NbRead(0, BoundTarget::Local(Kind::Int, 1));
-    body.push(gives(alloc, 1, BoundTarget::Local(Kind::Bool, 0), into)?)?;
+    let body = with(
+        body,
+        gives(alloc, 1, BoundTarget::Local(Kind::Bool, 0), into),
+    );
     let into = BoundRight::NbRead(0, BoundTarget::Element(1, local(1)));
-    body.push(gives(alloc, 2, BoundTarget::Variable(0), into)?)?;
+    let body = with(body, gives(alloc, 2, BoundTarget::Variable(0), into));
     let into = BoundRight::NbRead(0, BoundTarget::Variable(0));
-    body.push(gives(alloc, 3, BoundTarget::Nothing, into)?)?;
-    let text = told_thread(alloc, body, Items::new(alloc))?;
+    let body = with(body, gives(alloc, 3, BoundTarget::Nothing, into));
+    let text = told_thread(alloc, body, no_functions(alloc))?;
     assert!(rt; text.as_slice() == NB_READS.as_bytes());
     Ok(())
 }
@@ -92,13 +100,13 @@ static NB_WRITES: &str = "thread starts [0] from 0 to 11 [b i u l ul b i u l ul]
 #[test]
 fn nb_writes(rt: HostRuntime) -> Result<(), Fail> {
     let alloc = rt.alloc();
-    let mut body = Items::new(alloc);
+    let body = empty(alloc);
     let puts = BoundRight::NbWrite(0, BoundExpr::Variable(0));
-    body.push(gives(alloc, 1, BoundTarget::Signal(1), puts)?)?;
+    let body = with(body, gives(alloc, 1, BoundTarget::Signal(1), puts));
     let nine = BoundExpr::Constant(Value::Int(9));
     let puts = BoundRight::NbWrite(0, nine);
-    body.push(gives(alloc, 2, BoundTarget::Nothing, puts)?)?;
-    let text = told_thread(alloc, body, Items::new(alloc))?;
+    let body = with(body, gives(alloc, 2, BoundTarget::Nothing, puts));
+    let text = told_thread(alloc, body, no_functions(alloc))?;
     assert!(rt; text.as_slice() == NB_WRITES.as_bytes());
     Ok(())
 }

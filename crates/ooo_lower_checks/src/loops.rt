@@ -1,7 +1,8 @@
 //! Loops.
 
 use crate::making::{
-    binary, boxed, int, local, nothing, only_if, pair, set, simple, store, told_thread,
+    Made, binary, boxed, empty, inner, int, local, no_functions, nothing, only_if, pair, set,
+    simple, store, told_thread, with,
 };
 use ooo_bound::{
     BoundExpr, BoundRight, BoundSimple, BoundStat, BoundTarget, BoundTime, BoundWait, LinedSimple,
@@ -28,25 +29,41 @@ static WHILES: &str = "thread starts [0] from 0 to 9 [b i u l ul b i u l ul]
 #[test]
 fn whiles(rt: HostRuntime) -> Result<(), Fail> {
     let alloc = rt.alloc();
-    let mut body = Items::new(alloc);
-    body.push(store(alloc, 1, 0)?)?;
-    body.push(searching(alloc)?)?;
-    let turn = Boxed::new(alloc, nothing(alloc))?;
-    let test = boxed(alloc, BoundExpr::Variable(0))?;
-    body.push(BoundStat::While(6, test, turn))?;
-    let text = told_thread(alloc, body, Items::new(alloc))?;
+    let last = while_of(alloc, 6, Ok(BoundExpr::Variable(0)), nothing(alloc));
+    let body = with(
+        with(with(empty(alloc), store(alloc, 1, 0)), searching(alloc)),
+        last,
+    );
+    let text = told_thread(alloc, body, no_functions(alloc))?;
     assert!(rt; text.as_slice() == WHILES.as_bytes());
     Ok(())
 }
 
+// A `while`.
+fn while_of(
+    alloc: Global,
+    line: u32,
+    test: Made<BoundExpr>,
+    turn: Made<BoundStat>,
+) -> Made<BoundStat> {
+    match (in_box(alloc, test), inner(alloc, turn)) {
+        (Ok(test), Ok(turn)) => Ok(BoundStat::While(line, test, turn)),
+        _ => Err(AllocError),
+    }
+}
+
+// A value in a box.
+fn in_box(alloc: Global, e: Made<BoundExpr>) -> Made<Boxed<BoundExpr>> {
+    boxed(alloc, e?)
+}
+
 // A loop with a `break` and a `continue`.
-fn searching(alloc: Global) -> Result<BoundStat, AllocError> {
-    let leaves = only_if(alloc, 3, BoundExpr::Variable(0), BoundStat::Break(3))?;
-    let again = only_if(alloc, 4, BoundExpr::Signal(1), BoundStat::Continue(4))?;
-    let rest = pair(alloc, again, store(alloc, 5, 4)?)?;
-    let turn = Boxed::new(alloc, pair(alloc, leaves, rest)?)?;
-    let test = binary(alloc, Op::Less, BoundExpr::Variable(0), int(9))?;
-    Ok(BoundStat::While(2, boxed(alloc, test)?, turn))
+fn searching(alloc: Global) -> Made<BoundStat> {
+    let leaves = only_if(alloc, 3, BoundExpr::Variable(0), Ok(BoundStat::Break(3)));
+    let again = only_if(alloc, 4, BoundExpr::Signal(1), Ok(BoundStat::Continue(4)));
+    let turn = pair(alloc, leaves, pair(alloc, again, store(alloc, 5, 4)));
+    let test = binary(alloc, Op::Less, BoundExpr::Variable(0), int(9));
+    while_of(alloc, 2, test, turn)
 }
 
 static FORS: &str = "thread starts [0] from 0 to 13 [b i u l ul b i u l ul i]
@@ -69,13 +86,16 @@ static FORS: &str = "thread starts [0] from 0 to 13 [b i u l ul b i u l ul i]
 #[test]
 fn fors(rt: HostRuntime) -> Result<(), Fail> {
     let alloc = rt.alloc();
-    let mut body = Items::new(alloc);
-    body.push(counting(alloc)?)?;
-    let turn = Boxed::new(alloc, BoundStat::Break(5))?;
-    body.push(BoundStat::For(4, Items::new(alloc), None, None, turn))?;
-    let text = told_thread(alloc, body, Items::new(alloc))?;
+    let body = with(with(empty(alloc), counting(alloc)), without_a_head(alloc));
+    let text = told_thread(alloc, body, no_functions(alloc))?;
     assert!(rt; text.as_slice() == FORS.as_bytes());
     Ok(())
+}
+
+// A loop without a test and a step, which is left at once.
+fn without_a_head(alloc: Global) -> Made<BoundStat> {
+    let turn = inner(alloc, Ok(BoundStat::Break(5)))?;
+    Ok(BoundStat::For(4, Items::new(alloc), None, None, turn))
 }
 
 // What a local gets at the head of a loop.
@@ -86,17 +106,26 @@ fn at_head(right: BoundRight) -> LinedSimple {
     }
 }
 
-// A loop whose step reads the local that it counts.
-fn counting(alloc: Global) -> Result<BoundStat, AllocError> {
-    let again = only_if(alloc, 2, BoundExpr::Variable(0), BoundStat::Continue(2))?;
-    let rest = set(alloc, 3, BoundTarget::Variable(0), local(0))?;
-    let turn = Boxed::new(alloc, pair(alloc, again, rest)?)?;
-    let test = binary(alloc, Op::Less, local(0), int(3))?;
+// The local gets 0.
+fn begins(alloc: Global) -> Made<Items<LinedSimple>> {
     let mut begins = Items::new(alloc);
     begins.push(at_head(BoundRight::Value(int(0))))?;
-    let step = at_head(BoundRight::Read(0));
-    let step = Boxed::new(alloc, step)?;
-    Ok(BoundStat::For(1, begins, Some(boxed(alloc, test)?), Some(step), turn))
+    Ok(begins)
+}
+
+// A loop whose step reads the local that it counts.
+fn counting(alloc: Global) -> Made<BoundStat> {
+    let again = only_if(alloc, 2, BoundExpr::Variable(0), Ok(BoundStat::Continue(2)));
+    let rest = set(alloc, 3, BoundTarget::Variable(0), local(0));
+    let turn = inner(alloc, pair(alloc, again, rest));
+    let test = in_box(alloc, binary(alloc, Op::Less, local(0), int(3)));
+    let step = Boxed::new(alloc, at_head(BoundRight::Read(0)));
+    match (begins(alloc), test, step, turn) {
+        (Ok(begins), Ok(test), Ok(step), Ok(turn)) => {
+            Ok(BoundStat::For(1, begins, Some(test), Some(step), turn))
+        }
+        _ => Err(AllocError),
+    }
 }
 
 static DOS: &str = "thread starts [0] from 0 to 7 [b i u l ul b i u l ul]
@@ -114,17 +143,27 @@ fn always() -> BoundExpr {
     BoundExpr::Constant(Value::Bool(true))
 }
 
+// A `do`.
+fn do_of(alloc: Global, line: u32, turn: Made<BoundStat>, test: BoundExpr) -> Made<BoundStat> {
+    match (inner(alloc, turn), boxed(alloc, test)) {
+        (Ok(turn), Ok(test)) => Ok(BoundStat::Do(line, turn, test)),
+        _ => Err(AllocError),
+    }
+}
+
 // A `do` with a `continue`, and one that is left by `break`.
 #[test]
 fn dos(rt: HostRuntime) -> Result<(), Fail> {
     let alloc = rt.alloc();
-    let again = only_if(alloc, 2, BoundExpr::Variable(0), BoundStat::Continue(2))?;
-    let turn = Boxed::new(alloc, pair(alloc, again, store(alloc, 3, 1)?)?)?;
-    let mut body = Items::new(alloc);
-    body.push(BoundStat::Do(1, turn, boxed(alloc, BoundExpr::Signal(1))?))?;
-    let turn = Boxed::new(alloc, BoundStat::Break(5))?;
-    body.push(BoundStat::Do(4, turn, boxed(alloc, always())?))?;
-    let text = told_thread(alloc, body, Items::new(alloc))?;
+    let again = only_if(alloc, 2, BoundExpr::Variable(0), Ok(BoundStat::Continue(2)));
+    let turn = pair(alloc, again, store(alloc, 3, 1));
+    let first = do_of(alloc, 1, turn, BoundExpr::Signal(1));
+    let last = do_of(alloc, 4, Ok(BoundStat::Break(5)), always());
+    let text = told_thread(
+        alloc,
+        with(with(empty(alloc), first), last),
+        no_functions(alloc),
+    )?;
     assert!(rt; text.as_slice() == DOS.as_bytes());
     Ok(())
 }
@@ -139,25 +178,23 @@ static CLOCK: &str = "thread starts [0] from 0 to 6 [b i u l ul b i u l ul]
 ";
 
 // Half a period of a clock.
-fn half(alloc: Global, up: i32) -> Result<BoundStat, AllocError> {
+fn half(alloc: Global, up: i32) -> Made<BoundStat> {
     let wait = BoundWait {
         time: Some(BoundTime::Fixed(Time(5000))),
         events: Items::new(alloc),
         is_static: false,
     };
-    let value = set(alloc, 1, BoundTarget::Signal(1), int(up))?;
-    pair(alloc, value, simple(alloc, 1, BoundSimple::Wait(wait))?)
+    let waits = simple(alloc, 1, BoundSimple::Wait(wait));
+    pair(alloc, set(alloc, 1, BoundTarget::Signal(1), int(up)), waits)
 }
 
 // The body of a clock.
 #[test]
 fn a_clock(rt: HostRuntime) -> Result<(), Fail> {
     let alloc = rt.alloc();
-    let (up, down) = (half(alloc, 1)?, half(alloc, 0)?);
-    let turn = Boxed::new(alloc, pair(alloc, up, down)?)?;
-    let mut body = Items::new(alloc);
-    body.push(BoundStat::Do(1, turn, boxed(alloc, always())?))?;
-    let text = told_thread(alloc, body, Items::new(alloc))?;
+    let turn = pair(alloc, half(alloc, 1), half(alloc, 0));
+    let body = with(empty(alloc), do_of(alloc, 1, turn, always()));
+    let text = told_thread(alloc, body, no_functions(alloc))?;
     assert!(rt; text.as_slice() == CLOCK.as_bytes());
     Ok(())
 }

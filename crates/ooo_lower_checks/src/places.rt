@@ -1,7 +1,8 @@
 //! Where slots and processes stand.
 
 use crate::making::{
-    gives, int, model, only_if, process, returns, store, thread, told, told_thread,
+    Made, empty, gives, inner, int, no_functions, only_if, process, returns, store, thread, told,
+    told_thread, with, with_function, with_process,
 };
 use ooo_bound::{
     BoundExpr, BoundFunction, BoundRight, BoundSimple, BoundStat, BoundTarget, LinedSimple,
@@ -12,9 +13,8 @@ use std::alloc::{AllocError, Global};
 use std::test::Fail;
 
 // A function that gives 1.
-fn one(alloc: Global) -> Result<BoundFunction, AllocError> {
-    let mut body = Items::new(alloc);
-    body.push(returns(alloc, 9, int(1))?)?;
+fn one(alloc: Global) -> Made<BoundFunction> {
+    let body = with(empty(alloc), returns(alloc, 9, int(1)))?;
     Ok(BoundFunction {
         result: Some(Kind::Int),
         params: Items::new(alloc),
@@ -36,23 +36,33 @@ static LOOP: &str = "thread starts [0] from 0 to 11 [b i u l ul b i u l ul i i]
 10: end; line 0; next 10
 ";
 
+// A call of function 0.
+fn called(alloc: Global) -> BoundRight {
+    BoundRight::Call(0, Items::new(alloc))
+}
+
+// A loop that calls the function in its step and in its body.
+fn calling(alloc: Global) -> Made<BoundStat> {
+    let step = Boxed::new(
+        alloc,
+        LinedSimple {
+            line: 2,
+            simple: BoundSimple::Assign(BoundTarget::Variable(0), called(alloc)),
+        },
+    );
+    let turn = gives(alloc, 3, BoundTarget::Nothing, called(alloc));
+    match (step, inner(alloc, turn)) {
+        (Ok(step), Ok(turn)) => { Ok(BoundStat::For(1, Items::new(alloc), None, Some(step), turn)) }
+        _ => Err(AllocError),
+    }
+}
+
 // The call in the step of a loop has the first slot, and that in its body, whose result is dropped, the next one.
 #[test]
 fn calls_in_a_loop(rt: HostRuntime) -> Result<(), Fail> {
     let alloc = rt.alloc();
-    let mut functions = Items::new(alloc);
-    functions.push(one(alloc)?)?;
-    let call = BoundRight::Call(0, Items::new(alloc));
-    let turn = Boxed::new(alloc, gives(alloc, 3, BoundTarget::Nothing, call)?)?;
-    let call = BoundRight::Call(0, Items::new(alloc));
-    let step = LinedSimple {
-        line: 2,
-        simple: BoundSimple::Assign(BoundTarget::Variable(0), call),
-    };
-    let step = Boxed::new(alloc, step)?;
-    let mut body = Items::new(alloc);
-    body.push(BoundStat::For(1, Items::new(alloc), None, Some(step), turn))?;
-    let text = told_thread(alloc, body, functions)?;
+    let functions = with_function(no_functions(alloc), one(alloc));
+    let text = told_thread(alloc, with(empty(alloc), calling(alloc)), functions)?;
     assert!(rt; text.as_slice() == LOOP.as_bytes());
     Ok(())
 }
@@ -73,21 +83,21 @@ method waits [0] from 4 to 8 [b i u l ul b i u l ul]
 #[test]
 fn two_processes(rt: HostRuntime) -> Result<(), Fail> {
     let alloc = rt.alloc();
-    let mut processes = Items::new(alloc);
-    processes.push(thread(alloc, returning(alloc)?)?)?;
-    let body = returning(alloc)?;
-    processes.push(process(alloc, ProcessKind::Method, false, body)?)?;
-    let model = model(alloc, processes, Items::new(alloc))?;
-    let text = told(alloc, &model)?;
+    let first = thread(alloc, returning(alloc));
+    let second = process(alloc, ProcessKind::Method, false, returning(alloc));
+    let processes = with_process(with_process(Ok(Items::new(alloc)), first), second);
+    let text = told(alloc, processes, no_functions(alloc))?;
     assert!(rt; text.as_slice() == PROCESSES.as_bytes());
     Ok(())
 }
 
 // A body that may return early.
-fn returning(alloc: Global) -> Result<Items<BoundStat>, AllocError> {
-    let returns = BoundStat::Return(1, None);
-    let mut body = Items::new(alloc);
-    body.push(only_if(alloc, 1, BoundExpr::Variable(0), returns)?)?;
-    body.push(store(alloc, 2, 1)?)?;
-    Ok(body)
+fn returning(alloc: Global) -> Made<Items<BoundStat>> {
+    let early = only_if(
+        alloc,
+        1,
+        BoundExpr::Variable(0),
+        Ok(BoundStat::Return(1, None)),
+    );
+    with(with(empty(alloc), early), store(alloc, 2, 1))
 }

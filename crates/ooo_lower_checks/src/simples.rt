@@ -1,9 +1,8 @@
 //! Statements without statements in them.
 
-use crate::making::{binary, int, local, set, told_thread};
+use crate::making::{binary, empty, int, local, no_functions, set, told_thread, with};
 use ooo_bound::{BoundExpr, BoundTarget};
 use ooo_value::{Kind, Op, Value};
-use sqlite_items::Items;
 use std::test::Fail;
 
 static ASSIGNMENTS: &str = "thread starts [0] from 0 to 6 [b i u l ul b i u l ul i l l]
@@ -19,15 +18,24 @@ static ASSIGNMENTS: &str = "thread starts [0] from 0 to 6 [b i u l ul b i u l ul
 #[test]
 fn assignments(rt: HostRuntime) -> Result<(), Fail> {
     let alloc = rt.alloc();
-    let mut body = Items::new(alloc);
-    body.push(set(alloc, 1, BoundTarget::Local(Kind::Int, 0), int(5))?)?;
-    body.push(set(alloc, 2, BoundTarget::Local(Kind::Long, 1), local(0))?)?;
-    let seven = BoundExpr::Constant(Value::Uint(7));
-    body.push(set(alloc, 3, BoundTarget::Variable(0), seven)?)?;
     let more = binary(alloc, Op::Add, BoundExpr::Variable(0), int(1))?;
-    body.push(set(alloc, 4, BoundTarget::Element(1, local(0)), more)?)?;
-    body.push(set(alloc, 5, BoundTarget::Signal(1), BoundExpr::Variable(0))?)?;
-    let text = told_thread(alloc, body, Items::new(alloc))?;
+    let seven = BoundExpr::Constant(Value::Uint(7));
+    let body = empty(alloc);
+    let body = with(
+        body,
+        set(alloc, 1, BoundTarget::Local(Kind::Int, 0), int(5)),
+    );
+    let body = with(
+        body,
+        set(alloc, 2, BoundTarget::Local(Kind::Long, 1), local(0)),
+    );
+    let body = with(body, set(alloc, 3, BoundTarget::Variable(0), seven));
+    let body = with(body, set(alloc, 4, BoundTarget::Element(1, local(0)), more));
+    let body = with(
+        body,
+        set(alloc, 5, BoundTarget::Signal(1), BoundExpr::Variable(0)),
+    );
+    let text = told_thread(alloc, body, no_functions(alloc))?;
     assert!(rt; text.as_slice() == ASSIGNMENTS.as_bytes());
     Ok(())
 }

@@ -1,10 +1,9 @@
 //! `a op= b`.
 
-use crate::making::{int, local, simple, told_thread};
+use crate::making::{Made, boxed, empty, int, local, no_functions, simple, told_thread, with};
 use ooo_bound::{BoundExpr, BoundSimple, BoundStat, BoundTarget};
 use ooo_value::{Kind, Op, Value};
-use sqlite_items::{Boxed, Items};
-use std::alloc::{AllocError, Global};
+use std::alloc::Global;
 use std::test::Fail;
 
 fn update(
@@ -13,7 +12,7 @@ fn update(
     target: BoundTarget,
     op: Op,
     value: BoundExpr,
-) -> Result<BoundStat, AllocError> {
+) -> Made<BoundStat> {
     simple(alloc, line, BoundSimple::Update(target, op, value))
 }
 
@@ -33,29 +32,22 @@ static UPDATES: &str = "thread starts [0] from 0 to 9 [b i u l ul b i u l ul i]
 #[test]
 fn updates(rt: HostRuntime) -> Result<(), Fail> {
     let alloc = rt.alloc();
-    let mut body = Items::new(alloc);
+    let first = BoundExpr::Element(1, boxed(alloc, int(0))?);
     let element = BoundTarget::Element(1, local(0));
-    body.push(update(alloc, 1, element, Op::Add, BoundExpr::Variable(0))?)?;
-    body.push(update(
-        alloc,
-        2,
-        BoundTarget::Local(Kind::Int, 0),
-        Op::Subtract,
-        int(1),
-    )?)?;
+    let body = with(
+        empty(alloc),
+        update(alloc, 1, element, Op::Add, BoundExpr::Variable(0)),
+    );
+    let counter = BoundTarget::Local(Kind::Int, 0);
+    let body = with(body, update(alloc, 2, counter, Op::Subtract, int(1)));
     let two = BoundExpr::Constant(Value::Long(2));
-    body.push(update(alloc, 3, BoundTarget::Variable(0), Op::Multiply, two)?)?;
-    let zero = Boxed::new(alloc, int(0))?;
-    let index = BoundExpr::Constant(Value::Uint(2));
-    let first = BoundExpr::Element(1, zero);
-    body.push(update(
-        alloc,
-        4,
-        BoundTarget::Element(1, index),
-        Op::ShiftLeft,
-        first,
-    )?)?;
-    let text = told_thread(alloc, body, Items::new(alloc))?;
+    let body = with(
+        body,
+        update(alloc, 3, BoundTarget::Variable(0), Op::Multiply, two),
+    );
+    let third = BoundTarget::Element(1, BoundExpr::Constant(Value::Uint(2)));
+    let body = with(body, update(alloc, 4, third, Op::ShiftLeft, first));
+    let text = told_thread(alloc, body, no_functions(alloc))?;
     assert!(rt; text.as_slice() == UPDATES.as_bytes());
     Ok(())
 }

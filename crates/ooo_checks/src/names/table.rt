@@ -3,7 +3,7 @@
 //! stands in the second line of its text, but for whole texts.
 
 /// What stands before a row in the file: a constant, a module, and one with parameters.
-pub static FILE_HEAD: &str = "\
+pub const FILE_HEAD: &str = "\
 const int LIMIT = 3; \
 SC_MODULE(P) { \
     sc_in<int> i; sc_out<bool> o; sc_fifo_in<int> q; sc_signal<int> s; int v; void f() {} }; \
@@ -11,7 +11,7 @@ SC_MODULE(Q) { sc_in<bool> clk; const int size; int level; \
     Q(sc_module_name n, int a, int b) : sc_module(n), size(a), level(b) {} }; ";
 
 /// What stands before a row in a module: a member of each sort.
-pub static MODULE_HEAD: &str = "\
+pub const MODULE_HEAD: &str = "\
 SC_MODULE(M) { int num, list[4]; bool flag, flags[2]; \
     const int fixed = 1; static const int shared = 2; const int table[2]; \
     sc_event ev; sc_signal<int> sig; sc_signal<bool> bit; sc_fifo<int> que; \
