@@ -1,7 +1,7 @@
 //! Bound models made by hand.
 //!
-//! What is made is handed on as it is, with the answer that memory ran out: a test that let go itself what it has made so far
-//! would be dear to prove, since each `?` lets go all of it.
+//! What is made is handed on as the `Result` that it is. Where a test itself answered that memory ran out, each `?` would let
+//! go all that was made before it, which is dear to prove.
 
 use crate::nodes::lines;
 use ooo_bound::{
