@@ -1,28 +1,38 @@
 //! Sets of numbers, the delays of waits, and the name of a refusal.
 
 use crate::closed::are_closed;
-use crate::sketch::{process_of, thread};
+use crate::sketch::{Made, listed, processes_of, thread, with_node};
 use ooo_code::{Design, Node, NodeExpr, NodeKind, NodeTime, NodeWait};
 use ooo_segments::{Edge, GraphError, NumberSet, graph_of_closed};
 use ooo_time::{Delay, Scale, Time};
 use ooo_value::Value;
 use sqlite_items::Items;
-use std::alloc::{AllocError, Global};
+use std::alloc::Global;
 use std::test::Fail;
+
+// The numbers of a set, once these are added.
+fn numbers(alloc: Global, set: &mut NumberSet, added: &[u32]) -> Made<Items<u32>> {
+    for n in added {
+        set.add(*n)?;
+    }
+    set.numbers(alloc)
+}
 
 #[test]
 fn sets_list_their_numbers_in_order(rt: HostRuntime) -> Result<(), Fail> {
     let mut set = NumberSet::new(rt.alloc());
-    set.add(7)?;
-    set.add(2)?;
-    set.add(7)?;
-    set.add(0)?;
+    let numbers = numbers(rt.alloc(), &mut set, &[7, 2, 7, 0])?;
+    assert_eq!(rt; numbers.as_slice(), [0, 2, 7].as_slice());
     assert!(rt; set.contains(2) && !set.contains(3) && !set.contains(8));
-    assert_eq!(rt; set.numbers(rt.alloc())?.as_slice(), [0, 2, 7].as_slice());
-    let mut below = NumberSet::below(rt.alloc(), 2)?;
-    assert!(rt; !below.contains(1));
-    below.add(1)?;
-    assert_eq!(rt; below.numbers(rt.alloc())?.as_slice(), [1].as_slice());
+    Ok(())
+}
+
+#[test]
+fn a_set_below_a_number_is_empty_at_first(rt: HostRuntime) -> Result<(), Fail> {
+    let mut set = NumberSet::below(rt.alloc(), 2)?;
+    assert!(rt; !set.contains(1));
+    let numbers = numbers(rt.alloc(), &mut set, &[1])?;
+    assert_eq!(rt; numbers.as_slice(), [1].as_slice());
     Ok(())
 }
 
@@ -36,16 +46,20 @@ fn node(kind: NodeKind, next: u32) -> Node {
 }
 
 // A thread of five nodes.
-fn thread_of(alloc: Global, nodes: Items<Node>) -> Result<Design, AllocError> {
-    let mut processes = Items::new(alloc);
-    processes.push(process_of(alloc, thread(0, 5))?)?;
-    Ok(Design {
-        nodes,
-        processes,
-        variables: Items::new(alloc),
-        channels: Items::new(alloc),
-        events: Items::new(alloc),
-    })
+fn thread_of(alloc: Global, nodes: Items<Node>) -> Made<Design> {
+    match processes_of(alloc, &[thread(0, 5)]) {
+        Ok(processes) => Ok(Design {
+            nodes,
+            processes,
+            variables: Items::new(alloc),
+            channels: Items::new(alloc),
+            events: Items::new(alloc),
+        }),
+        Err(error) => {
+            drop(nodes);
+            Err(error)
+        }
+    }
 }
 
 fn edge(from: u32, to: u32, delay: Delay) -> Edge {
@@ -53,34 +67,32 @@ fn edge(from: u32, to: u32, delay: Delay) -> Edge {
 }
 
 // A wait for a time, or for one event, too.
-fn waiting(
-    alloc: Global,
-    time: NodeTime,
-    event: Option<u32>,
-    next: u32,
-) -> Result<Node, AllocError> {
-    let mut events = Items::new(alloc);
-    if let Some(e) = event {
-        events.push(e)?;
+fn waiting(alloc: Global, time: NodeTime, event: Option<u32>, next: u32) -> Made<Node> {
+    match listed(alloc, event) {
+        Ok(events) => Ok(node(
+            NodeKind::Wait(NodeWait {
+                time: Some(time),
+                events,
+                is_static: false,
+            }),
+            next,
+        )),
+        Err(error) => {
+            drop(time);
+            Err(error)
+        }
     }
-    let wait = NodeWait {
-        time: Some(time),
-        events,
-        is_static: false,
-    };
-    Ok(node(NodeKind::Wait(wait), next))
 }
 
 // Waits for a constant time, for none, for a computed one, and for a constant time or an event; and the end.
-fn waits(alloc: Global) -> Result<Items<Node>, AllocError> {
-    let amount = NodeExpr::Constant(Value::Int(5));
-    let mut nodes = Items::new(alloc);
-    nodes.push(waiting(alloc, NodeTime::Fixed(Time(5)), None, 1)?)?;
-    nodes.push(waiting(alloc, NodeTime::Fixed(Time(0)), None, 2)?)?;
-    nodes.push(waiting(alloc, NodeTime::Amount(amount, Scale::Ns), None, 3)?)?;
-    nodes.push(waiting(alloc, NodeTime::Fixed(Time(5)), Some(3), 4)?)?;
-    nodes.push(node(NodeKind::End, 0))?;
-    Ok(nodes)
+fn waits(alloc: Global) -> Made<Items<Node>> {
+    let amount = NodeTime::Amount(NodeExpr::Constant(Value::Int(5)), Scale::Ns);
+    let nodes = Ok(Items::new(alloc));
+    let nodes = with_node(nodes, waiting(alloc, NodeTime::Fixed(Time(5)), None, 1));
+    let nodes = with_node(nodes, waiting(alloc, NodeTime::Fixed(Time(0)), None, 2));
+    let nodes = with_node(nodes, waiting(alloc, amount, None, 3));
+    let nodes = with_node(nodes, waiting(alloc, NodeTime::Fixed(Time(5)), Some(3), 4));
+    with_node(nodes, Ok(node(NodeKind::End, 0)))
 }
 
 // Worked by hand: a constant time above zero alone is the wait's delay, and every other wait takes one delta cycle.
@@ -89,7 +101,9 @@ fn waits_take_a_time_or_one_delta(rt: HostRuntime) -> Result<(), Fail> {
     let alloc = rt.alloc();
     let design = thread_of(alloc, waits(alloc)?)?;
     assert!(rt; are_closed(&design));
-    let graph = graph_of_closed(alloc, &design)?;
+    let graph = graph_of_closed(alloc, &design);
+    drop(design);
+    let graph = graph?;
     let time = Time(5);
     let edges = [
         edge(0, 1, Delay { time, deltas: 0 }),

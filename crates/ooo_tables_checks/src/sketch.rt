@@ -97,37 +97,77 @@ pub(crate) fn thread(first: u32, end: u32) -> Part {
     }
 }
 
+/// What was made, unless memory ran out.
+pub(crate) type Made<T> = Result<T, AllocError>;
+
 /// The design that is drawn up, with each node on line 1.
-pub(crate) fn design_of(alloc: Global, sketch: Sketch) -> Result<Design, AllocError> {
+pub(crate) fn design_of(alloc: Global, sketch: Sketch) -> Made<Design> {
     design_on_lines(alloc, sketch, &[])
 }
 
 /// The design that is drawn up, with each node on its line, or on line 1 where none is told.
-pub(crate) fn design_on_lines(
-    alloc: Global,
-    sketch: Sketch,
-    lines: &[u32],
-) -> Result<Design, AllocError> {
-    let mut nodes = Items::new(alloc);
-    for (n, step) in sketch.nodes.iter().enumerate() {
-        let line = lines.get(n).copied().unwrap_or(1);
-        nodes.push(node_of(alloc, *step, line)?)?;
+pub(crate) fn design_on_lines(alloc: Global, sketch: Sketch, lines: &[u32]) -> Made<Design> {
+    let nodes = nodes_on_lines(alloc, sketch.nodes, lines);
+    let processes = processes_of(alloc, sketch.processes);
+    let variables = Items::from_slice(alloc, &[SCALAR, SCALAR, SCALAR]);
+    let channels = Items::from_slice(alloc, sketch.channels);
+    let events = Items::from_slice(alloc, sketch.events);
+    match (nodes, processes, variables, channels, events) {
+        (Ok(nodes), Ok(processes), Ok(variables), Ok(channels), Ok(events)) => Ok(Design {
+            nodes,
+            processes,
+            variables,
+            channels,
+            events,
+        }),
+        _ => Err(AllocError),
     }
+}
+
+fn nodes_on_lines(alloc: Global, steps: &[Step], lines: &[u32]) -> Made<Items<Node>> {
+    let mut nodes = Ok(Items::new(alloc));
+    for (n, step) in steps.iter().enumerate() {
+        let line = lines.get(n).copied().unwrap_or(1);
+        nodes = with_node(nodes, node_of(alloc, *step, line));
+    }
+    nodes
+}
+
+/// The nodes, and one more.
+pub(crate) fn with_node(nodes: Made<Items<Node>>, node: Made<Node>) -> Made<Items<Node>> {
+    match node {
+        Ok(node) => pushed(nodes, node),
+        Err(error) => {
+            drop(nodes);
+            Err(error)
+        }
+    }
+}
+
+fn pushed(nodes: Made<Items<Node>>, node: Node) -> Made<Items<Node>> {
+    match nodes {
+        Ok(mut nodes) => {
+            nodes.push(node)?;
+            Ok(nodes)
+        }
+        Err(error) => {
+            drop(node);
+            Err(error)
+        }
+    }
+}
+
+/// The processes that are told.
+pub(crate) fn processes_of(alloc: Global, parts: &[Part]) -> Made<Items<Proc>> {
     let mut processes = Items::new(alloc);
-    for part in sketch.processes {
+    for part in parts {
         processes.push(process_of(alloc, *part)?)?;
     }
-    Ok(Design {
-        nodes,
-        processes,
-        variables: Items::from_slice(alloc, &[SCALAR, SCALAR, SCALAR])?,
-        channels: Items::from_slice(alloc, sketch.channels)?,
-        events: Items::from_slice(alloc, sketch.events)?,
-    })
+    Ok(processes)
 }
 
 /// The process that is told.
-pub(crate) fn process_of(alloc: Global, part: Part) -> Result<Proc, AllocError> {
+pub(crate) fn process_of(alloc: Global, part: Part) -> Made<Proc> {
     Ok(Proc {
         kind: part.kind,
         first: part.first,
@@ -216,8 +256,8 @@ fn on_events(alloc: Global, event: u32, is_static: bool) -> Result<NodeWait, All
     })
 }
 
-// At most one number.
-fn listed(alloc: Global, number: Option<u32>) -> Result<Items<u32>, AllocError> {
+/// At most one number.
+pub(crate) fn listed(alloc: Global, number: Option<u32>) -> Result<Items<u32>, AllocError> {
     let mut items = Items::new(alloc);
     if let Some(number) = number {
         items.push(number)?;

@@ -16,15 +16,28 @@ use std::test::Fail;
 /// The tables of a design in words.
 pub(crate) fn told(alloc: Global, sketch: Sketch) -> Result<String, Fail> {
     let design = design_of(alloc, sketch)?;
-    if !are_closed(&design) {
-        return Ok(String::from_str(alloc, "not closed")?);
+    if are_closed(&design) {
+        let tables = tables_of(alloc, &design);
+        drop(design);
+        told_of(alloc, tables?)
+    } else {
+        drop(design);
+        Ok(String::from_str(alloc, "not closed")?)
     }
-    let tables = tables_of(alloc, &design)?;
+}
+
+fn told_of(alloc: Global, tables: Tables) -> Result<String, Fail> {
     let mut text = String::new(alloc);
-    tell_graph(alloc, &mut text, &tables)?;
-    tell_clashes(alloc, &mut text, &tables)?;
-    tell_advances(alloc, &mut text, &tables)?;
+    let told = tell(alloc, &mut text, &tables);
+    drop(tables);
+    told?;
     Ok(text)
+}
+
+fn tell(alloc: Global, text: &mut String, tables: &Tables) -> Result<(), AllocError> {
+    tell_graph(alloc, text, tables)?;
+    tell_clashes(alloc, text, tables)?;
+    tell_advances(alloc, text, tables)
 }
 
 // The segments, their accesses, and the edges.

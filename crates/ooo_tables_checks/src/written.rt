@@ -4,6 +4,7 @@ ghost use Rattle.std.specs.Prelude.{◌≤◌};
 
 use crate::closed::are_closed;
 use crate::sketch::{FIFO, SIGNAL, Sketch, Step, design_on_lines, thread};
+use ooo_code::Design;
 use ooo_tables::{Tables, law, text};
 use ooo_value::{BoundEvent, Name};
 use std::alloc::{AllocError, Global};
@@ -29,13 +30,34 @@ fn is_written(
     wanted: &str,
 ) -> Result<(), Fail> {
     let design = design_on_lines(alloc, sketch, lines)?;
-    let names = named(alloc, names)?;
-    assert!(rt; are_closed(&design));
-    assert!(rt; design.processes.len() <= names.len());
-    let tables = Tables::make_of_closed(alloc, &design)?;
-    let written = text(alloc, &design, names.as_slice(), &tables)?;
-    assert!(rt; written.as_slice() == wanted.as_bytes());
+    let written = written(rt, alloc, &design, names);
+    drop(design);
+    assert!(rt; written?.as_slice() == wanted.as_bytes());
     Ok(())
+}
+
+// The text of a design's tables, by the names of its processes.
+fn written(
+    rt: &impl Abort,
+    alloc: Global,
+    design: &Design,
+    names: &[&str],
+) -> Result<Vec<u8>, Fail> {
+    let names = named(alloc, names)?;
+    assert!(rt; are_closed(design));
+    assert!(rt; design.processes.len() <= names.len());
+    match Tables::make_of_closed(alloc, design) {
+        Ok(tables) => {
+            let written = text(alloc, design, names.as_slice(), &tables);
+            drop(tables);
+            drop(names);
+            Ok(written?)
+        }
+        Err(error) => {
+            drop(names);
+            Err(Fail::from(error))
+        }
+    }
 }
 
 static TWO_THREADS: &str = "segment 0 m.a start

@@ -1,41 +1,38 @@
 //! The five faults where each can come, and what was done before.
 
-use super::{Code, MANY, are_ints, binary, cells, fault_of, has_cells, int, locals, printed};
+use super::nodes::{Code, binary, boxed, element, int, set};
+use super::parts::{are_ints, cells, has_cells, locals, with_variable};
+use super::{MANY, Made, fault_of, printed, run};
 use ooo_code::{Effect, NodeExpr, NodeKind, NodeTime, NodeWait};
 use ooo_time::Scale;
 use ooo_value::{Fault, Op, Value};
-use sqlite_items::{Boxed, Items};
-use std::alloc::{AllocError, Global};
+use sqlite_items::Items;
+use std::alloc::Global;
 use std::process::Abort;
 use std::test::Fail;
 
 /// A node behind a print and a request, and before a print.
-fn around(alloc: Global, kind: NodeKind) -> Result<Code, AllocError> {
-    let mut code = Code::new(alloc);
-    let before = code.says("before", 1, 1);
-    let request = code.counted(NodeKind::Write(4, int(3)), 2, 2);
-    code.counted(kind, 3, 3)?;
-    code.says("after", 4, 4)?;
-    code.passed(NodeKind::End, 0)?;
-    before?;
-    request?;
-    Ok(code)
+fn around(alloc: Global, kind: Made<NodeKind>) -> Code {
+    Code::new(alloc)
+        .says("before", 1, 1)
+        .counted(Ok(NodeKind::Write(4, int(3))), 2, 2)
+        .counted(kind, 3, 3)
+        .says("after", 4, 4)
+        .ends()
 }
 
 /// A node faults with this, and what was done before is kept.
-fn check(rt: &impl Abort, alloc: Global, kind: NodeKind, fault: Fault) -> Result<(), AllocError> {
-    let code = around(alloc, kind)?;
-    let mut parts = locals(alloc, &[8])?;
-    parts.variables.push(cells(alloc, &[1, 2, 3])?)?;
-    let ran = code.run(&mut parts, MANY)?;
+fn check(rt: &impl Abort, alloc: Global, kind: Made<NodeKind>, fault: Fault) -> Made<()> {
+    let parts = with_variable(locals(alloc, &[8]), cells(alloc, &[1, 2, 3]));
+    let ran = run(parts, around(alloc, kind), MANY)?;
     assert_eq!(rt; fault_of(&ran.end), Some((fault, 3)));
     assert!(rt; printed(&ran.output, "before"));
     assert_eq!(rt;
         ran.effects.as_slice(),
         [Effect::Request(4, Value::Int(3))].as_slice()
     );
-    assert!(rt; are_ints(&parts.slots, &[8]));
-    assert!(rt; has_cells(&parts, 0, &[1, 2, 3]));
+    assert!(rt; are_ints(&ran.slots, &[8]));
+    assert!(rt; has_cells(&ran.variables, 0, &[1, 2, 3]));
     Ok(())
 }
 
@@ -70,21 +67,17 @@ impl Cause {
     }
 
     /// An expression that faults so.
-    fn expression(self, alloc: Global) -> Result<NodeExpr, AllocError> {
+    fn expression(self, alloc: Global) -> Made<NodeExpr> {
+        let of = |op: Op, a: i32, b: i32| binary(alloc, op, Ok(int(a)), Ok(int(b)));
         match self {
-            Cause::TooGreat => binary(alloc, Op::Add, int(i32::MAX), int(1)),
-            Cause::ByZero => binary(alloc, Op::Divide, int(1), int(0)),
-            Cause::FarShift => binary(alloc, Op::ShiftLeft, int(1), int(32)),
-            Cause::BackShift => binary(alloc, Op::ShiftRight, int(1), int(-1)),
-            Cause::PastTheLast => element(alloc, int(3)),
-            Cause::BeforeTheFirst => element(alloc, int(-1)),
+            Cause::TooGreat => of(Op::Add, i32::MAX, 1),
+            Cause::ByZero => of(Op::Divide, 1, 0),
+            Cause::FarShift => of(Op::ShiftLeft, 1, 32),
+            Cause::BackShift => of(Op::ShiftRight, 1, -1),
+            Cause::PastTheLast => element(alloc, 0, Ok(int(3))),
+            Cause::BeforeTheFirst => element(alloc, 0, Ok(int(-1))),
         }
     }
-}
-
-/// An element of variable 0, which has three.
-fn element(alloc: Global, index: NodeExpr) -> Result<NodeExpr, AllocError> {
-    Ok(NodeExpr::Element(0, Boxed::new(alloc, index)?))
 }
 
 /// Where an expression stands in a node.
@@ -127,7 +120,11 @@ impl Place {
     const AMOUNTS: [Place; 3] = [Place::NotifyAmount, Place::WaitAmount, Place::TriggerAmount];
 
     /// A node with the expression in this place.
-    fn node(self, alloc: Global, e: NodeExpr) -> Result<NodeKind, AllocError> {
+    fn node(self, alloc: Global, e: Made<NodeExpr>) -> Made<NodeKind> {
+        self.node_of(alloc, e?)
+    }
+
+    fn node_of(self, alloc: Global, e: NodeExpr) -> Made<NodeKind> {
         match self {
             Place::Local => Ok(NodeKind::Set(0, e)),
             Place::Variable => Ok(NodeKind::Store(0, None, e)),
@@ -137,9 +134,9 @@ impl Place {
             Place::Request => Ok(NodeKind::Write(4, e)),
             Place::Put => Ok(NodeKind::Put(5, e)),
             Place::StoredIndex => Ok(NodeKind::Store(0, Some(e), int(9))),
-            Place::ReadIndex => Ok(NodeKind::Set(0, element(alloc, e)?)),
-            Place::LeftShift => Ok(NodeKind::Set(0, binary(alloc, Op::ShiftLeft, int(1), e)?)),
-            Place::RightShift => Ok(NodeKind::Set(0, binary(alloc, Op::ShiftRight, int(1), e)?)),
+            Place::ReadIndex => set(0, element(alloc, 0, Ok(e))),
+            Place::LeftShift => set(0, binary(alloc, Op::ShiftLeft, Ok(int(1)), Ok(e))),
+            Place::RightShift => set(0, binary(alloc, Op::ShiftRight, Ok(int(1)), Ok(e))),
             Place::NotifyAmount => Ok(NodeKind::Notify(0, NodeTime::Amount(e, Scale::Ns))),
             Place::WaitAmount => Ok(NodeKind::Wait(after(alloc, e))),
             Place::TriggerAmount => Ok(NodeKind::Trigger(after(alloc, e))),
@@ -161,8 +158,8 @@ fn a_fault_ends_the_activation_wherever_it_comes(rt: HostRuntime) -> Result<(), 
     let alloc = rt.alloc();
     for place in Place::ALL {
         for cause in Cause::ALL {
-            let e = cause.expression(alloc)?;
-            check(&rt, alloc, place.node(alloc, e)?, cause.fault())?;
+            let kind = place.node(alloc, cause.expression(alloc));
+            check(&rt, alloc, kind, cause.fault())?;
         }
     }
     Ok(())
@@ -174,13 +171,13 @@ fn an_amount_faults(rt: HostRuntime) -> Result<(), Fail> {
     let alloc = rt.alloc();
     for place in Place::AMOUNTS {
         for amount in [Value::Int(-1), Value::Long(-1), Value::Ulong(u64::MAX)] {
-            let kind = place.node(alloc, NodeExpr::Constant(amount))?;
+            let kind = place.node(alloc, Ok(NodeExpr::Constant(amount)));
             check(&rt, alloc, kind, Fault::BadTime)?;
         }
     }
     for place in [Place::LeftShift, Place::RightShift] {
         for amount in [Value::Int(-1), Value::Int(32), Value::Ulong(u64::MAX)] {
-            let kind = place.node(alloc, NodeExpr::Constant(amount))?;
+            let kind = place.node(alloc, Ok(NodeExpr::Constant(amount)));
             check(&rt, alloc, kind, Fault::ShiftRange)?;
         }
     }
@@ -192,30 +189,39 @@ fn an_index_faults(rt: HostRuntime) -> Result<(), Fail> {
     let alloc = rt.alloc();
     for place in [Place::StoredIndex, Place::ReadIndex] {
         for index in [Value::Int(3), Value::Int(-1), Value::Ulong(u64::MAX)] {
-            let kind = place.node(alloc, NodeExpr::Constant(index))?;
+            let kind = place.node(alloc, Ok(NodeExpr::Constant(index)));
             check(&rt, alloc, kind, Fault::IndexRange)?;
         }
     }
     Ok(())
 }
 
+/// A node that stores a value past the last element.
+fn stored_past_the_last(value: Made<NodeExpr>) -> Made<NodeKind> {
+    Ok(NodeKind::Store(0, Some(int(3)), value?))
+}
+
 // A value is evaluated before the index at which it is stored.
 #[test]
 fn a_value_faults_before_its_index(rt: HostRuntime) -> Result<(), Fail> {
     let alloc = rt.alloc();
-    let value = Cause::TooGreat.expression(alloc)?;
-    let kind = NodeKind::Store(0, Some(int(3)), value);
+    let kind = stored_past_the_last(Cause::TooGreat.expression(alloc));
     check(&rt, alloc, kind, Fault::Overflow)?;
     Ok(())
+}
+
+/// `0 && 1 / 0`
+fn false_and_a_fault(alloc: Global) -> Made<NodeExpr> {
+    let right = boxed(alloc, Cause::ByZero.expression(alloc))?;
+    Ok(NodeExpr::And(boxed(alloc, Ok(int(0)))?, right))
 }
 
 // The right operand of `&&` isn't evaluated where the left one is 0; the left operand of `+` comes first.
 #[test]
 fn what_is_left_out_does_not_fault(rt: HostRuntime) -> Result<(), Fail> {
     let alloc = rt.alloc();
-    let right = Boxed::new(alloc, Cause::ByZero.expression(alloc)?)?;
-    let and = NodeExpr::And(Boxed::new(alloc, int(0))?, right);
-    let sum = binary(alloc, Op::Add, and, Cause::TooGreat.expression(alloc)?)?;
-    check(&rt, alloc, NodeKind::Set(0, sum), Fault::Overflow)?;
+    let too_great = Cause::TooGreat.expression(alloc);
+    let sum = binary(alloc, Op::Add, false_and_a_fault(alloc), too_great);
+    check(&rt, alloc, set(0, sum), Fault::Overflow)?;
     Ok(())
 }

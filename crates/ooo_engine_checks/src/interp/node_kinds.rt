@@ -1,105 +1,102 @@
 //! One small design a kind of node.
 
-use super::{
-    Code, MANY, add_port, are_ints, binary, cells, has_cells, int, is_over, locals, printed,
-    start_from,
-};
+use super::nodes::{Code, binary, element, int, set};
+use super::parts::{Parts, are_ints, cells, has_cells, locals, with_port, with_variable};
+use super::{MANY, Made, is_over, printed, run, start_from};
 use ooo_code::{Design, Effect, NodeExpr, NodeKind, NodeTime, SegmentEntry};
 use ooo_interp::{Emitted, Port, run_process};
 use ooo_time::{Scale, Time};
 use ooo_value::{Op, ProcessKind, Value};
-use sqlite_items::Boxed;
 use std::alloc::{AllocError, Global};
 use std::test::Fail;
 
-fn setting_and_printing(alloc: Global) -> Result<Code, AllocError> {
-    let sum = binary(alloc, Op::Add, int(3), int(4))?;
-    let mut code = Code::new(alloc);
-    code.counted(NodeKind::Set(1, sum), 1, 1)?;
-    code.says("x=", 2, 2)?;
-    code.passed(NodeKind::PrintValue(NodeExpr::Slot(1)), 3)?;
-    code.says(" at ", 2, 4)?;
-    code.passed(NodeKind::PrintTime, 5)?;
-    code.passed(NodeKind::End, 0)?;
-    Ok(code)
+fn setting_and_printing(alloc: Global) -> Code {
+    let sum = binary(alloc, Op::Add, Ok(int(3)), Ok(int(4)));
+    Code::new(alloc)
+        .counted(set(1, sum), 1, 1)
+        .says("x=", 2, 2)
+        .passed(Ok(NodeKind::PrintValue(NodeExpr::Slot(1))), 3)
+        .says(" at ", 2, 4)
+        .passed(Ok(NodeKind::PrintTime), 5)
+        .ends()
 }
 
 #[test]
 fn sets_and_prints(rt: HostRuntime) -> Result<(), Fail> {
     let alloc = rt.alloc();
-    let mut parts = locals(alloc, &[1, 2, 3])?;
-    let ran = setting_and_printing(alloc)?.run(&mut parts, MANY)?;
+    let ran = run(locals(alloc, &[1, 2, 3]), setting_and_printing(alloc), MANY)?;
     assert!(rt; printed(&ran.output, "x=7 at 10 ns"));
     assert!(rt; is_over(&ran.end));
-    assert!(rt; are_ints(&parts.slots, &[1, 7, 3]));
+    assert!(rt; are_ints(&ran.slots, &[1, 7, 3]));
     Ok(())
 }
 
-fn storing(alloc: Global) -> Result<Code, AllocError> {
-    let index = Boxed::new(alloc, int(2))?;
-    let element = NodeExpr::Element(1, index);
-    let sum = binary(alloc, Op::Add, element, NodeExpr::Variable(0))?;
-    let mut code = Code::new(alloc);
-    code.counted(NodeKind::Store(0, None, int(5)), 1, 1)?;
-    let kind = NodeKind::Store(1, Some(int(2)), NodeExpr::Variable(0));
-    code.counted(kind, 2, 2)?;
-    code.counted(NodeKind::Store(1, Some(int(0)), sum), 3, 3)?;
-    code.passed(NodeKind::End, 0)?;
-    Ok(code)
+/// A node that stores a value in an element of variable 1.
+fn store(index: i32, value: Made<NodeExpr>) -> Made<NodeKind> {
+    Ok(NodeKind::Store(1, Some(int(index)), value?))
+}
+
+fn storing(alloc: Global) -> Code {
+    let sum = binary(
+        alloc,
+        Op::Add,
+        element(alloc, 1, Ok(int(2))),
+        Ok(NodeExpr::Variable(0)),
+    );
+    Code::new(alloc)
+        .counted(Ok(NodeKind::Store(0, None, int(5))), 1, 1)
+        .counted(store(2, Ok(NodeExpr::Variable(0))), 2, 2)
+        .counted(store(0, sum), 3, 3)
+        .ends()
 }
 
 #[test]
 fn stores(rt: HostRuntime) -> Result<(), Fail> {
     let alloc = rt.alloc();
-    let mut parts = locals(alloc, &[])?;
-    parts.variables.push(cells(alloc, &[0])?)?;
-    parts.variables.push(cells(alloc, &[0, 0, 0])?)?;
-    let ran = storing(alloc)?.run(&mut parts, MANY)?;
+    let parts = with_variable(locals(alloc, &[]), cells(alloc, &[0]));
+    let parts = with_variable(parts, cells(alloc, &[0, 0, 0]));
+    let ran = run(parts, storing(alloc), MANY)?;
     assert!(rt; is_over(&ran.end));
-    assert!(rt; has_cells(&parts, 0, &[5]));
-    assert!(rt; has_cells(&parts, 1, &[10, 0, 5]));
+    assert!(rt; has_cells(&ran.variables, 0, &[5]));
+    assert!(rt; has_cells(&ran.variables, 1, &[10, 0, 5]));
     Ok(())
 }
 
-fn choosing(alloc: Global) -> Result<Code, AllocError> {
-    let mut code = Code::new(alloc);
-    code.counted(NodeKind::Test(NodeExpr::Slot(0), 3), 1, 1)?;
-    code.says("yes", 2, 2)?;
-    code.passed(NodeKind::Goto, 4)?;
-    code.says("no", 3, 4)?;
-    code.passed(NodeKind::End, 0)?;
-    Ok(code)
+fn choosing(alloc: Global) -> Code {
+    Code::new(alloc)
+        .counted(Ok(NodeKind::Test(NodeExpr::Slot(0), 3)), 1, 1)
+        .says("yes", 2, 2)
+        .passed(Ok(NodeKind::Goto), 4)
+        .says("no", 3, 4)
+        .ends()
 }
 
 #[test]
 fn goes_one_of_two_ways(rt: HostRuntime) -> Result<(), Fail> {
     let alloc = rt.alloc();
     for (x, text) in [(1, "yes"), (0, "no"), (-1, "yes")] {
-        let mut parts = locals(alloc, &[x])?;
-        let ran = choosing(alloc)?.run(&mut parts, MANY)?;
+        let ran = run(locals(alloc, &[x]), choosing(alloc), MANY)?;
         assert!(rt; printed(&ran.output, text), "from {x}");
     }
     Ok(())
 }
 
-fn having_effects(alloc: Global) -> Result<Code, AllocError> {
-    let mut code = Code::new(alloc);
-    code.counted(NodeKind::Write(4, int(3)), 1, 1)?;
+fn having_effects(alloc: Global) -> Code {
     let five = NodeTime::Fixed(Time(5));
-    code.counted(NodeKind::Notify(1, five), 2, 2)?;
     let two = NodeTime::Amount(int(2), Scale::Ns);
-    code.counted(NodeKind::Notify(2, two), 3, 3)?;
-    code.counted(NodeKind::Cancel(1), 4, 4)?;
-    code.counted(NodeKind::Stop, 5, 5)?;
-    code.passed(NodeKind::End, 0)?;
-    Ok(code)
+    Code::new(alloc)
+        .counted(Ok(NodeKind::Write(4, int(3))), 1, 1)
+        .counted(Ok(NodeKind::Notify(1, five)), 2, 2)
+        .counted(Ok(NodeKind::Notify(2, two)), 3, 3)
+        .counted(Ok(NodeKind::Cancel(1)), 4, 4)
+        .counted(Ok(NodeKind::Stop), 5, 5)
+        .ends()
 }
 
 #[test]
 fn has_effects_in_order(rt: HostRuntime) -> Result<(), Fail> {
     let alloc = rt.alloc();
-    let mut parts = locals(alloc, &[])?;
-    let ran = having_effects(alloc)?.run(&mut parts, MANY)?;
+    let ran = run(locals(alloc, &[]), having_effects(alloc), MANY)?;
     let effects = [
         Effect::Request(4, Value::Int(3)),
         Effect::Notify(1, Time(5)),
@@ -111,49 +108,69 @@ fn has_effects_in_order(rt: HostRuntime) -> Result<(), Fail> {
     Ok(())
 }
 
-fn printing_and_stopping(alloc: Global) -> Result<Design, AllocError> {
-    let mut code = Code::new(alloc);
-    code.says("x", 1, 1)?;
-    code.counted(NodeKind::Stop, 2, 2)?;
-    code.passed(NodeKind::End, 0)?;
-    code.design(ProcessKind::Thread)
+fn printing_and_stopping(alloc: Global) -> Code {
+    Code::new(alloc)
+        .says("x", 1, 1)
+        .counted(Ok(NodeKind::Stop), 2, 2)
+        .ends()
+}
+
+// How often a process that prints an x and stops has emitted that alone, into what was emitted before.
+fn times_emitted(alloc: Global, parts: Made<Parts>, design: Made<Design>) -> Made<u32> {
+    match (parts, design) {
+        (Ok(mut parts), Ok(design)) => {
+            let mut emitted = Emitted::new(alloc);
+            let counted = emitted_by(&mut parts, &mut emitted, &design);
+            drop(emitted);
+            drop(parts);
+            drop(design);
+            counted
+        }
+        _ => Err(AllocError),
+    }
+}
+
+fn emitted_by(parts: &mut Parts, emitted: &mut Emitted, design: &Design) -> Made<u32> {
+    let start = start_from(SegmentEntry::Start, MANY);
+    let mut counted = 0;
+    for _ in 0..3 {
+        run_process(parts, emitted, design, start)?;
+        if printed(&emitted.output, "x")
+            && emitted.effects.as_slice() == [Effect::Stop].as_slice()
+        {
+            counted += 1;
+        }
+    }
+    Ok(counted)
 }
 
 // What was emitted before is neither printed nor done again.
 #[test]
 fn forgets_what_was_emitted_before(rt: HostRuntime) -> Result<(), Fail> {
     let alloc = rt.alloc();
-    let design = printing_and_stopping(alloc)?;
-    let start = start_from(SegmentEntry::Start, MANY);
-    let mut parts = locals(alloc, &[])?;
-    let mut emitted = Emitted::new(alloc);
-    for _ in 0..3 {
-        run_process(&mut parts, &mut emitted, &design, start)?;
-        assert!(rt; printed(&emitted.output, "x"));
-        assert_eq!(rt; emitted.effects.as_slice(), [Effect::Stop].as_slice());
-    }
+    let design = printing_and_stopping(alloc).design(ProcessKind::Thread);
+    assert_eq!(rt; times_emitted(alloc, locals(alloc, &[]), design)?, 3);
     Ok(())
 }
 
-fn reading_signals(alloc: Global) -> Result<Code, AllocError> {
-    let mut code = Code::new(alloc);
-    code.passed(NodeKind::PrintValue(NodeExpr::Signal(4)), 1)?;
-    code.passed(NodeKind::PrintValue(NodeExpr::Event(4)), 2)?;
-    code.passed(NodeKind::PrintValue(NodeExpr::Edge(4, true)), 3)?;
-    code.passed(NodeKind::PrintValue(NodeExpr::Edge(4, false)), 4)?;
-    code.passed(NodeKind::PrintValue(NodeExpr::Signal(6)), 5)?;
-    code.passed(NodeKind::PrintValue(NodeExpr::Event(6)), 6)?;
-    code.passed(NodeKind::End, 0)?;
-    Ok(code)
+fn reading_signals(alloc: Global) -> Code {
+    Code::new(alloc)
+        .passed(Ok(NodeKind::PrintValue(NodeExpr::Signal(4))), 1)
+        .passed(Ok(NodeKind::PrintValue(NodeExpr::Event(4))), 2)
+        .passed(Ok(NodeKind::PrintValue(NodeExpr::Edge(4, true))), 3)
+        .passed(Ok(NodeKind::PrintValue(NodeExpr::Edge(4, false))), 4)
+        .passed(Ok(NodeKind::PrintValue(NodeExpr::Signal(6))), 5)
+        .passed(Ok(NodeKind::PrintValue(NodeExpr::Event(6))), 6)
+        .ends()
 }
 
 #[test]
 fn reads_signals(rt: HostRuntime) -> Result<(), Fail> {
     let alloc = rt.alloc();
-    let mut parts = locals(alloc, &[])?;
-    add_port(&rt, &mut parts, Port::Signal(4, Value::Bool(true), true))?;
-    add_port(&rt, &mut parts, Port::Signal(6, Value::Int(-9), false))?;
-    let ran = reading_signals(alloc)?.run(&mut parts, MANY)?;
+    let bit = Port::Signal(4, Value::Bool(true), true);
+    let parts = with_port(&rt, locals(alloc, &[]), bit);
+    let parts = with_port(&rt, parts, Port::Signal(6, Value::Int(-9), false));
+    let ran = run(parts, reading_signals(alloc), MANY)?;
     assert!(rt; printed(&ran.output, "1110-90"));
     Ok(())
 }

@@ -1,17 +1,18 @@
 //! Waits of threads, and what methods wait for next.
 
-use super::{Code, MANY, are_ints, int, is_over, locals, run_from, wait_of};
+use super::nodes::{Code, int, set};
+use super::parts::{are_ints, locals};
+use super::{MANY, Made, is_over, run_from, wait_of};
 use ooo_code::{JobEnd, NodeExpr, NodeKind, NodeTime, NodeWait, SegmentEntry};
 use ooo_time::Time;
 use ooo_value::ProcessKind;
 use sqlite_items::Items;
-use std::alloc::{AllocError, Global};
+use std::alloc::Global;
 use std::test::Fail;
 
-/// A wait of 5 ticks, and for an event.
-fn wait(alloc: Global, event: u32) -> Result<NodeWait, AllocError> {
-    let mut events = Items::new(alloc);
-    events.push(event)?;
+/// 5 ticks, or an event.
+fn pause(alloc: Global, event: u32) -> Made<NodeWait> {
+    let events = Items::from_slice(alloc, &[event])?;
     Ok(NodeWait {
         time: Some(NodeTime::Fixed(Time(5))),
         events,
@@ -27,48 +28,55 @@ fn waits_for(end: &JobEnd, time: Option<Time>, event: u32) -> bool {
     }
 }
 
-fn waiting(alloc: Global) -> Result<Code, AllocError> {
-    let wait = wait(alloc, 2)?;
-    let mut code = Code::new(alloc);
-    code.counted(NodeKind::Set(0, int(1)), 1, 1)?;
-    code.counted(NodeKind::Wait(wait), 2, 2)?;
-    code.counted(NodeKind::Set(0, int(2)), 3, 3)?;
-    code.passed(NodeKind::End, 0)?;
-    Ok(code)
+fn wait(alloc: Global, event: u32) -> Made<NodeKind> {
+    Ok(NodeKind::Wait(pause(alloc, event)?))
 }
 
+fn waiting(alloc: Global) -> Code {
+    Code::new(alloc)
+        .counted(set(0, Ok(int(1))), 1, 1)
+        .counted(wait(alloc, 2), 2, 2)
+        .counted(set(0, Ok(int(2))), 3, 3)
+        .ends()
+}
+
+// The second activation has the local as the first one left it.
 #[test]
 fn goes_on_after_a_wait(rt: HostRuntime) -> Result<(), Fail> {
     let alloc = rt.alloc();
-    let design = waiting(alloc)?.design(ProcessKind::Thread)?;
-    let mut parts = locals(alloc, &[0])?;
-    let ran = run_from(alloc, &mut parts, &design, SegmentEntry::Start, MANY)?;
-    assert_eq!(rt; ran.entry, SegmentEntry::After(1));
-    assert!(rt; are_ints(&parts.slots, &[1]));
-    assert!(rt; waits_for(&ran.end, Some(Time(5)), 2));
-    let more = run_from(alloc, &mut parts, &design, ran.entry, MANY)?;
-    assert!(rt; is_over(&more.end));
-    assert!(rt; are_ints(&parts.slots, &[2]));
+    for (entry, before, behind, after) in [
+        (SegmentEntry::Start, 0, SegmentEntry::After(1), 1),
+        (SegmentEntry::After(1), 1, SegmentEntry::After(1), 2),
+    ] {
+        let design = waiting(alloc).design(ProcessKind::Thread);
+        let ran = run_from(alloc, locals(alloc, &[before]), design, entry, MANY)?;
+        assert_eq!(rt; ran.entry, behind);
+        assert!(rt; are_ints(&ran.slots, &[after]));
+        assert_eq!(rt; waits_for(&ran.end, Some(Time(5)), 2), before == 0);
+        assert_eq!(rt; is_over(&ran.end), before == 1);
+    }
     Ok(())
 }
 
-fn triggering(alloc: Global) -> Result<Code, AllocError> {
-    let wait = wait(alloc, 3)?;
-    let mut code = Code::new(alloc);
-    code.counted(NodeKind::Test(NodeExpr::Slot(0), 2), 1, 1)?;
-    code.counted(NodeKind::Trigger(wait), 2, 2)?;
-    code.passed(NodeKind::End, 0)?;
-    Ok(code)
+fn trigger(alloc: Global, event: u32) -> Made<NodeKind> {
+    Ok(NodeKind::Trigger(pause(alloc, event)?))
+}
+
+fn triggering(alloc: Global) -> Code {
+    Code::new(alloc)
+        .counted(Ok(NodeKind::Test(NodeExpr::Slot(0), 2)), 1, 1)
+        .counted(trigger(alloc, 3), 2, 2)
+        .ends()
 }
 
 #[test]
 fn waits_for_its_trigger_or_its_static_events(rt: HostRuntime) -> Result<(), Fail> {
     let alloc = rt.alloc();
     for (x, time, event) in [(1, Some(Time(5)), 3), (0, None, 7)] {
-        let design = triggering(alloc)?.design(ProcessKind::Method)?;
-        let mut parts = locals(alloc, &[x])?;
-        let ran = run_from(alloc, &mut parts, &design, SegmentEntry::Start, MANY)?;
-        assert_eq!(rt; ran.entry, SegmentEntry::Start);
+        let design = triggering(alloc).design(ProcessKind::Method);
+        let start = SegmentEntry::Start;
+        let ran = run_from(alloc, locals(alloc, &[x]), design, start, MANY)?;
+        assert_eq!(rt; ran.entry, start);
         assert!(rt; waits_for(&ran.end, time, event));
     }
     Ok(())
