@@ -16,6 +16,9 @@ use std::alloc::{AllocError, Global};
 use std::process::Abort;
 use std::test::Fail;
 
+/// What was made, unless memory ran out.
+type Made<T> = Result<T, AllocError>;
+
 const AT: Position = Position { line: 3, column: 5 };
 
 const LEAST: Value = Value::Int(-2_147_483_648);
@@ -50,7 +53,7 @@ fn number(value: Value) -> CheckedExpr {
     CheckedExpr::Number(value.kind(), number)
 }
 
-fn name(alloc: Global, thing: Thing, number: usize) -> Result<CheckedExpr, AllocError> {
+fn name(alloc: Global, thing: Thing, number: usize) -> Made<CheckedExpr> {
     let word = Word {
         name: Name::new(alloc, "x")?,
         position: AT,
@@ -59,43 +62,65 @@ fn name(alloc: Global, thing: Thing, number: usize) -> Result<CheckedExpr, Alloc
     Ok(CheckedExpr::Name(thing.value_kind(), Resolved { word, denotes }))
 }
 
+fn boxed(alloc: Global, e: Made<CheckedExpr>) -> Made<Boxed<CheckedExpr>> {
+    Boxed::new(alloc, e?)
+}
+
 fn joined(
     alloc: Global,
     sign: BinaryOp,
-    a: CheckedExpr,
-    b: CheckedExpr,
-) -> Result<CheckedExpr, AllocError> {
-    let a = Boxed::new(alloc, a)?;
-    let b = Boxed::new(alloc, b)?;
-    Ok(CheckedExpr::Binary(Kind::Int, sign, a, b))
+    a: Made<CheckedExpr>,
+    b: Made<CheckedExpr>,
+) -> Made<CheckedExpr> {
+    match (boxed(alloc, a), boxed(alloc, b)) {
+        (Ok(a), Ok(b)) => Ok(CheckedExpr::Binary(Kind::Int, sign, a, b)),
+        _ => Err(AllocError),
+    }
 }
 
-fn prefixed(alloc: Global, op: PrefixOp, e: CheckedExpr) -> Result<CheckedExpr, AllocError> {
-    Ok(CheckedExpr::Prefix(Kind::Int, AT, op, Boxed::new(alloc, e)?))
+fn prefixed(alloc: Global, op: PrefixOp, e: Made<CheckedExpr>) -> Made<CheckedExpr> {
+    Ok(CheckedExpr::Prefix(Kind::Int, AT, op, boxed(alloc, e)?))
+}
+
+fn cast(alloc: Global, e: Made<CheckedExpr>) -> Made<CheckedExpr> {
+    let form = TypeName {
+        form: TypeForm::UnsignedLongLong,
+        position: AT,
+    };
+    Ok(CheckedExpr::Cast(Kind::Ulong, AT, form, boxed(alloc, e)?))
+}
+
+// An operator on two numbers of kind int.
+fn of_ints(alloc: Global, sign: BinaryOp, a: i32, b: i32) -> Made<CheckedExpr> {
+    joined(
+        alloc,
+        sign,
+        Ok(number(Value::Int(a))),
+        Ok(number(Value::Int(b))),
+    )
 }
 
 // An expression that divides by 0.
-fn faulty(alloc: Global) -> Result<CheckedExpr, AllocError> {
-    joined(
-        alloc,
-        BinaryOp::Divide,
-        number(Value::Int(1)),
-        number(Value::Int(0)),
-    )
+fn faulty(alloc: Global) -> Made<CheckedExpr> {
+    of_ints(alloc, BinaryOp::Divide, 1, 0)
 }
 
 // One that shifts by more than its width has.
-fn faulty_shift(alloc: Global) -> Result<CheckedExpr, AllocError> {
-    joined(
-        alloc,
-        BinaryOp::ShiftLeft,
-        number(Value::Int(1)),
-        number(Value::Int(32)),
-    )
+fn faulty_shift(alloc: Global) -> Made<CheckedExpr> {
+    of_ints(alloc, BinaryOp::ShiftLeft, 1, 32)
 }
 
-fn gives(rt: &impl Abort, e: &CheckedExpr, answer: Result<Value, Fault>, what: &str) {
-    assert_eq!(rt; value(known(), e), answer, "{what}");
+fn gives(
+    rt: &impl Abort,
+    e: Made<CheckedExpr>,
+    answer: Result<Value, Fault>,
+    what: &str,
+) -> Made<()> {
+    let e = e?;
+    let found = value(known(), &e);
+    drop(e);
+    assert_eq!(rt; found, answer, "{what}");
+    Ok(())
 }
 
 #[test]
@@ -121,14 +146,8 @@ fn operators_give_what_c_does(rt: HostRuntime) -> Result<(), Fail> {
         (BinaryOp::Remainder, Value::Int(2)),
     ];
     for (sign, answer) in rows {
-        // 14 and 3
-        let e = joined(
-            rt.alloc(),
-            sign,
-            number(Value::Int(14)),
-            number(Value::Int(3)),
-        )?;
-        gives(&rt, &e, Ok(answer), "14 and 3");
+        let e = of_ints(rt.alloc(), sign, 14, 3);
+        gives(&rt, e, Ok(answer), "14 and 3")?;
     }
     assert!(rt; operator(BinaryOp::Both).is_none() && operator(BinaryOp::Either).is_none());
     assert_eq!(rt; operator(BinaryOp::LessEqual), Some(Op::LessOrEqual));
@@ -149,8 +168,8 @@ fn a_side_that_is_left_out_plays_no_part(rt: HostRuntime) -> Result<(), Fail> {
         (BinaryOp::And, no, fault),
     ];
     for (sign, left, answer) in rows {
-        let e = joined(rt.alloc(), sign, number(left), faulty(rt.alloc())?)?;
-        gives(&rt, &e, answer, "a fault on the right");
+        let e = joined(rt.alloc(), sign, Ok(number(left)), faulty(rt.alloc()));
+        gives(&rt, e, answer, "a fault on the right")?;
     }
     Ok(())
 }
@@ -158,48 +177,30 @@ fn a_side_that_is_left_out_plays_no_part(rt: HostRuntime) -> Result<(), Fail> {
 // Of two faults the left side's is told, and of a right side that counts its truth.
 #[test]
 fn both_sides_play_their_part(rt: HostRuntime) -> Result<(), Fail> {
-    let yes = Value::Int(2);
-    let both = joined(
-        rt.alloc(),
-        BinaryOp::Add,
-        faulty_shift(rt.alloc())?,
-        faulty(rt.alloc())?,
-    )?;
-    gives(&rt, &both, Err(Fault::ShiftRange), "two faults");
-    let truth = joined(
-        rt.alloc(),
-        BinaryOp::Both,
-        number(yes),
-        number(Value::Int(0)),
-    )?;
+    let alloc = rt.alloc();
+    let both = joined(alloc, BinaryOp::Add, faulty_shift(alloc), faulty(alloc));
+    gives(&rt, both, Err(Fault::ShiftRange), "two faults")?;
+    let truth = of_ints(alloc, BinaryOp::Both, 2, 0);
     gives(
         &rt,
-        &truth,
+        truth,
         Ok(Value::Bool(false)),
         "the truth of the right side",
-    );
+    )?;
     Ok(())
 }
 
 // Of a choice one branch alone is evaluated, and its value gets the kind of both.
 #[test]
 fn the_other_branch_plays_no_part(rt: HostRuntime) -> Result<(), Fail> {
-    let yes = Value::Int(2);
-    let no = Value::Uint(0);
-    let left = chosen(rt.alloc(), yes, number(Value::Int(-1)), faulty(rt.alloc())?)?;
-    gives(
-        &rt,
-        &left,
-        Ok(Value::Uint(4_294_967_295)),
-        "the first branch, in the common kind",
-    );
-    let right = chosen(
-        rt.alloc(),
-        no,
-        faulty(rt.alloc())?,
-        number(Value::Bool(true)),
-    )?;
-    gives(&rt, &right, Ok(Value::Uint(1)), "the second branch");
+    let alloc = rt.alloc();
+    let least = Ok(number(Value::Int(-1)));
+    let left = chosen(alloc, Value::Int(2), least, faulty(alloc));
+    let common = Ok(Value::Uint(4_294_967_295));
+    gives(&rt, left, common, "the first branch, in the common kind")?;
+    let truth = Ok(number(Value::Bool(true)));
+    let right = chosen(alloc, Value::Uint(0), faulty(alloc), truth);
+    gives(&rt, right, Ok(Value::Uint(1)), "the second branch")?;
     Ok(())
 }
 
@@ -207,17 +208,18 @@ fn the_other_branch_plays_no_part(rt: HostRuntime) -> Result<(), Fail> {
 fn chosen(
     alloc: Global,
     test: Value,
-    yes: CheckedExpr,
-    no: CheckedExpr,
-) -> Result<CheckedExpr, AllocError> {
-    let test = Boxed::new(alloc, number(test))?;
-    let yes = Boxed::new(alloc, yes)?;
-    let no = Boxed::new(alloc, no)?;
-    Ok(CheckedExpr::Choose(Kind::Uint, test, yes, no))
+    yes: Made<CheckedExpr>,
+    no: Made<CheckedExpr>,
+) -> Made<CheckedExpr> {
+    let test = boxed(alloc, Ok(number(test)));
+    match (test, boxed(alloc, yes), boxed(alloc, no)) {
+        (Ok(test), Ok(yes), Ok(no)) => Ok(CheckedExpr::Choose(Kind::Uint, test, yes, no)),
+        _ => Err(AllocError),
+    }
 }
 
 #[test]
-fn prefixes_casts_and_names_give_their_values(rt: HostRuntime) -> Result<(), Fail> {
+fn prefixes_give_their_values(rt: HostRuntime) -> Result<(), Fail> {
     let rows = [
         (PrefixOp::Not, Value::Int(5), Ok(Value::Bool(false))),
         (
@@ -230,21 +232,17 @@ fn prefixes_casts_and_names_give_their_values(rt: HostRuntime) -> Result<(), Fai
         (PrefixOp::Keep, Value::Bool(true), Ok(Value::Int(1))),
     ];
     for (op, operand, answer) in rows {
-        let e = prefixed(rt.alloc(), op, number(operand))?;
-        gives(&rt, &e, answer, "a prefix");
+        let e = prefixed(rt.alloc(), op, Ok(number(operand)));
+        gives(&rt, e, answer, "a prefix")?;
     }
-    let form = TypeName {
-        form: TypeForm::UnsignedLongLong,
-        position: AT,
-    };
-    let operand = Boxed::new(rt.alloc(), number(Value::Int(-1)))?;
-    let cast = CheckedExpr::Cast(Kind::Ulong, AT, form, operand);
-    gives(
-        &rt,
-        &cast,
-        Ok(Value::Ulong(18_446_744_073_709_551_615)),
-        "a cast",
-    );
+    Ok(())
+}
+
+#[test]
+fn casts_and_names_give_their_values(rt: HostRuntime) -> Result<(), Fail> {
+    let operand = cast(rt.alloc(), Ok(number(Value::Int(-1))));
+    let greatest = Ok(Value::Ulong(18_446_744_073_709_551_615));
+    gives(&rt, operand, greatest, "a cast")?;
     let names = [
         (Thing::FileConstant(Kind::Int), 0, Value::Int(40)),
         (Thing::FileConstant(Kind::Long), 1, Value::Long(0)),
@@ -255,10 +253,22 @@ fn prefixes_casts_and_names_give_their_values(rt: HostRuntime) -> Result<(), Fai
         (Thing::Variable(Kind::Uint), 2, Value::Int(0)),
     ];
     for (thing, number, answer) in names {
-        let e = name(rt.alloc(), thing, number)?;
-        gives(&rt, &e, Ok(answer), "a name");
+        let e = name(rt.alloc(), thing, number);
+        gives(&rt, e, Ok(answer), "a name")?;
     }
     Ok(())
+}
+
+fn ticks(given: CheckedTime) -> Result<Time, TimeBreach> {
+    let ticks = time(known(), &given);
+    drop(given);
+    ticks
+}
+
+// A time whose amount divides by 0.
+fn faulty_time(alloc: Global) -> Made<CheckedTime> {
+    let at = Position { line: 3, column: 1 };
+    Ok(CheckedTime::Made(at, faulty(alloc)?, Scale::Ns))
 }
 
 // 2^62 - 1 is 4,611,686,018,427,387,903.
@@ -288,31 +298,33 @@ fn times_are_counted_in_ticks(rt: HostRuntime) -> Result<(), Fail> {
     ];
     for (amount, scale, answer) in rows {
         let given = CheckedTime::Amount(number(amount), scale);
-        assert_eq!(rt; time(known(), &given), answer, "{amount:?}");
+        assert_eq!(rt; ticks(given), answer, "{amount:?}");
     }
-    assert_eq!(rt; time(known(), &CheckedTime::Zero(AT)), Ok(Time(0)));
-    let made = CheckedTime::Made(
-        Position { line: 3, column: 1 },
-        faulty(rt.alloc())?,
-        Scale::Ns,
-    );
-    assert_eq!(rt; time(known(), &made), Err(TimeBreach::Bad));
-    assert_eq!(rt; place(&made), AT);
+    assert_eq!(rt; ticks(CheckedTime::Zero(AT)), Ok(Time(0)));
+    let made = faulty_time(rt.alloc())?;
+    let at = place(&made);
+    assert_eq!(rt; ticks(made), Err(TimeBreach::Bad));
+    assert_eq!(rt; at, AT);
     Ok(())
 }
 
-// wait(-1, SC_NS) at a line and a call of the function 4, in a block.
-fn refused_block(alloc: Global, line: u32) -> Result<CheckedStat, AllocError> {
-    let at = Position { line, column: 9 };
+fn simple(alloc: Global, simple: CheckedSimple) -> Made<CheckedStat> {
+    Ok(CheckedStat::Simple(Boxed::new(alloc, simple)?))
+}
+
+// wait(-1, SC_NS)
+fn wait(alloc: Global, at: Position) -> Made<CheckedStat> {
     let number = Number {
         value: Value::Int(-1),
         position: at,
     };
     let amount = CheckedExpr::Number(Kind::Int, number);
     let delay = CheckedAwaited::Delay(CheckedTime::Amount(amount, Scale::Ns));
-    let mut body = Items::new(alloc);
-    let wait = Boxed::new(alloc, CheckedSimple::Wait(at, delay))?;
-    body.push(CheckedStat::Simple(wait))?;
+    simple(alloc, CheckedSimple::Wait(at, delay))
+}
+
+// A call of the function 4.
+fn call(alloc: Global, at: Position) -> Made<CheckedStat> {
     let word = Word {
         name: Name::new(alloc, "f")?,
         position: at,
@@ -322,22 +334,54 @@ fn refused_block(alloc: Global, line: u32) -> Result<CheckedStat, AllocError> {
         number: 4,
     };
     let call = CheckedSimple::Call(Resolved { word, denotes }, Items::new(alloc));
-    body.push(CheckedStat::Simple(Boxed::new(alloc, call)?))?;
+    simple(alloc, call)
+}
+
+// Two statements.
+fn both(
+    alloc: Global,
+    first: Made<CheckedStat>,
+    second: Made<CheckedStat>,
+) -> Made<Items<CheckedStat>> {
+    with(with(Ok(Items::new(alloc)), first), second)
+}
+
+fn with(body: Made<Items<CheckedStat>>, more: Made<CheckedStat>) -> Made<Items<CheckedStat>> {
+    match (body, more) {
+        (Ok(mut body), Ok(more)) => {
+            body.push(more)?;
+            Ok(body)
+        }
+        _ => Err(AllocError),
+    }
+}
+
+// wait(-1, SC_NS) at a line and a call of the function 4, in a block.
+fn refused_block(alloc: Global, line: u32) -> Made<CheckedStat> {
+    let at = Position { line, column: 9 };
+    let body = both(alloc, wait(alloc, at), call(alloc, at))?;
     Ok(CheckedStat::Block(at, body))
+}
+
+// What is told of the times of a body, and which functions it calls.
+fn looked_at(alloc: Global, body: Items<CheckedStat>) -> Made<(Option<TimeRefusal>, Vec<usize>)> {
+    let mut told = None;
+    refuse_times(known(), body.as_slice(), &mut told);
+    let mut calls = Vec::new(alloc);
+    let added = add_calls(body.as_slice(), &mut calls);
+    drop(body);
+    added?;
+    Ok((told, calls))
 }
 
 #[test]
 fn a_body_is_looked_at_as_a_whole(rt: HostRuntime) -> Result<(), Fail> {
-    let mut body = Items::new(rt.alloc());
-    body.push(refused_block(rt.alloc(), 7)?)?;
-    body.push(refused_block(rt.alloc(), 6)?)?;
-    let mut told = None;
-    refuse_times(known(), body.as_slice(), &mut told);
+    let alloc = rt.alloc();
+    let body = both(alloc, refused_block(alloc, 7), refused_block(alloc, 6))?;
+    let (told, calls) = looked_at(alloc, body)?;
     let at = Position { line: 6, column: 9 };
     let what = TimeBreach::Bad;
     assert_eq!(rt; told, Some(TimeRefusal { what, at }));
-    let mut calls = Vec::new(rt.alloc());
-    add_calls(body.as_slice(), &mut calls)?;
     assert_eq!(rt; calls.as_slice(), [4, 4].as_slice());
     Ok(())
 }

@@ -148,23 +148,42 @@ fn read(rt: &impl Abort, alloc: Global, source: &[u8], what: &str) -> Result<Uni
     }
 }
 
+/// What is printed from the tree of a source.
+fn printed(
+    rt: &impl Abort,
+    alloc: Global,
+    source: &[u8],
+    what: &str,
+) -> Result<Vec<u8>, AllocError> {
+    let tree = read(rt, alloc, source, what)?;
+    let printed = print(alloc, &tree);
+    drop(tree);
+    printed
+}
+
+/// Whether the tokens of what was printed are those of the text.
+fn has_its_tokens(
+    rt: &impl Abort,
+    alloc: Global,
+    text: &[u8],
+    printed: &[u8],
+) -> Result<bool, AllocError> {
+    let own = tokens_of(rt, alloc, text)?;
+    let own = lexemes_of(rt, alloc, text, own.as_slice())?;
+    let own = without_pairs(alloc, own.as_slice())?;
+    let found = tokens_of(rt, alloc, printed)?;
+    let found = lexemes_of(rt, alloc, printed, found.as_slice())?;
+    are_same(alloc, own.as_slice(), found.as_slice())
+}
+
 fn check_row(rt: &impl Abort, alloc: Global, frame: Frame, body: &str) -> Result<(), AllocError> {
     let text = framed(alloc, frame, body)?;
-    let tree = read(rt, alloc, text.as_slice(), body)?;
-    let printed = print(alloc, &tree)?;
-    let own = tokens_of(rt, alloc, text.as_slice())?;
-    let own = lexemes_of(rt, alloc, text.as_slice(), own.as_slice())?;
-    let own = without_pairs(alloc, own.as_slice())?;
-    let found = tokens_of(rt, alloc, printed.as_slice())?;
-    let found = lexemes_of(rt, alloc, printed.as_slice(), found.as_slice())?;
+    let once = printed(rt, alloc, text.as_slice(), body)?;
+    let is_its_own = has_its_tokens(rt, alloc, text.as_slice(), once.as_slice())?;
+    assert!(rt; is_its_own, "printed: {body}");
+    let twice = printed(rt, alloc, once.as_slice(), body)?;
     assert!(rt;
-        are_same(alloc, own.as_slice(), found.as_slice())?,
-        "printed: {body}"
-    );
-    let again = read(rt, alloc, printed.as_slice(), body)?;
-    let twice = print(alloc, &again)?;
-    assert!(rt;
-        twice.as_slice() == printed.as_slice(),
+        twice.as_slice() == once.as_slice(),
         "printed twice: {body}"
     );
     Ok(())
