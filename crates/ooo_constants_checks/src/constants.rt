@@ -347,12 +347,25 @@ fn both(
 }
 
 fn with(body: Made<Items<CheckedStat>>, more: Made<CheckedStat>) -> Made<Items<CheckedStat>> {
-    match (body, more) {
-        (Ok(mut body), Ok(more)) => {
+    match more {
+        Ok(more) => pushed(body, more),
+        Err(error) => {
+            drop(body);
+            Err(error)
+        }
+    }
+}
+
+fn pushed(body: Made<Items<CheckedStat>>, more: CheckedStat) -> Made<Items<CheckedStat>> {
+    match body {
+        Ok(mut body) => {
             body.push(more)?;
             Ok(body)
         }
-        _ => Err(AllocError),
+        Err(error) => {
+            drop(more);
+            Err(error)
+        }
     }
 }
 

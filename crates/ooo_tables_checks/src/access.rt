@@ -1,25 +1,16 @@
 //! The access of a segment that touches something in each way.
 
 use crate::closed::are_closed;
-use crate::sketch::{Made, with_node};
+use crate::sketch::{Made, node, waiting, with_node};
 use crate::tables::{Tables, tables_of};
 use ooo_access::Access;
-use ooo_code::{Design, Node, NodeExpr, NodeKind, NodeTime, NodeWait, Proc};
+use ooo_code::{Design, Node, NodeExpr, NodeKind, NodeTime, Proc};
 use ooo_time::{Scale, Time};
 use ooo_value::{BoundEvent, ProcessKind, Value};
 use sqlite_items::{Boxed, Items};
 use std::alloc::{AllocError, Global};
 use std::process::Abort;
 use std::test::Fail;
-
-fn node(kind: NodeKind, next: u32) -> Made<Node> {
-    Ok(Node {
-        kind,
-        line: 1,
-        counts: true,
-        next,
-    })
-}
 
 // One node of each kind that touches something, one after another, and the end.
 fn nodes(alloc: Global) -> Made<Items<Node>> {
@@ -46,14 +37,9 @@ fn nodes(alloc: Global) -> Made<Items<Node>> {
 
 // A wait for a negated variable in nanoseconds, or for event 3.
 fn wait(alloc: Global) -> Made<Node> {
-    let events = Items::from_slice(alloc, &[3])?;
     let amount = NodeExpr::Negate(Boxed::new(alloc, NodeExpr::Variable(2))?);
-    let wait = NodeWait {
-        time: Some(NodeTime::Amount(amount, Scale::Ns)),
-        events,
-        is_static: false,
-    };
-    node(NodeKind::Wait(wait), 9)
+    let kind = waiting(alloc, Some(NodeTime::Amount(amount, Scale::Ns)), Some(3))?;
+    node(kind, 9)
 }
 
 fn events(alloc: Global) -> Made<Items<BoundEvent>> {
@@ -108,11 +94,14 @@ fn accesses(rt: &impl Abort, alloc: Global) -> Result<Vec<Access>, Fail> {
     Ok(access)
 }
 
-fn touches_all(rt: &impl Abort, access: &Access) {
+fn reads_and_writes(rt: &impl Abort, access: &Access) {
     assert_eq!(rt; access.read.as_slice(), [1, 2].as_slice());
     assert_eq!(rt; access.written.as_slice(), [3].as_slice());
     assert_eq!(rt; access.signals_read.as_slice(), [1, 2].as_slice());
     assert_eq!(rt; access.signals_written.as_slice(), [0].as_slice());
+}
+
+fn uses_fifos_and_events(rt: &impl Abort, access: &Access) {
     assert_eq!(rt; access.takes.as_slice(), [4].as_slice());
     assert_eq!(rt; access.puts.as_slice(), [5].as_slice());
     assert_eq!(rt; access.cancelled.as_slice(), [9].as_slice());
@@ -133,7 +122,8 @@ fn notifies_all(rt: &impl Abort, access: &Access) {
 fn lists_what_the_nodes_touch(rt: HostRuntime) -> Result<(), Fail> {
     let accesses = accesses(&rt, rt.alloc())?;
     assert_eq!(rt; accesses.len(), 2);
-    touches_all(&rt, &accesses[0]);
+    reads_and_writes(&rt, &accesses[0]);
+    uses_fifos_and_events(&rt, &accesses[0]);
     notifies_all(&rt, &accesses[0]);
     let access = &accesses[1];
     assert_eq!(rt; access.waited.as_slice(), [3].as_slice());

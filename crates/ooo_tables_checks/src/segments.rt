@@ -1,8 +1,8 @@
 //! Sets of numbers, the delays of waits, and the name of a refusal.
 
 use crate::closed::are_closed;
-use crate::sketch::{Made, listed, processes_of, thread, with_node};
-use ooo_code::{Design, Node, NodeExpr, NodeKind, NodeTime, NodeWait};
+use crate::sketch::{Made, node, processes_of, thread, waiting, with_node};
+use ooo_code::{Design, Node, NodeExpr, NodeKind, NodeTime};
 use ooo_segments::{Edge, GraphError, NumberSet, graph_of_closed};
 use ooo_time::{Delay, Scale, Time};
 use ooo_value::Value;
@@ -36,15 +36,6 @@ fn a_set_below_a_number_is_empty_at_first(rt: HostRuntime) -> Result<(), Fail> {
     Ok(())
 }
 
-fn node(kind: NodeKind, next: u32) -> Node {
-    Node {
-        kind,
-        line: 1,
-        counts: true,
-        next,
-    }
-}
-
 // A thread of five nodes.
 fn thread_of(alloc: Global, nodes: Items<Node>) -> Made<Design> {
     match processes_of(alloc, &[thread(0, 5)]) {
@@ -67,32 +58,19 @@ fn edge(from: u32, to: u32, delay: Delay) -> Edge {
 }
 
 // A wait for a time, or for one event, too.
-fn waiting(alloc: Global, time: NodeTime, event: Option<u32>, next: u32) -> Made<Node> {
-    match listed(alloc, event) {
-        Ok(events) => Ok(node(
-            NodeKind::Wait(NodeWait {
-                time: Some(time),
-                events,
-                is_static: false,
-            }),
-            next,
-        )),
-        Err(error) => {
-            drop(time);
-            Err(error)
-        }
-    }
+fn wait(alloc: Global, time: NodeTime, event: Option<u32>, next: u32) -> Made<Node> {
+    node(waiting(alloc, Some(time), event)?, next)
 }
 
 // Waits for a constant time, for none, for a computed one, and for a constant time or an event; and the end.
 fn waits(alloc: Global) -> Made<Items<Node>> {
     let amount = NodeTime::Amount(NodeExpr::Constant(Value::Int(5)), Scale::Ns);
     let nodes = Ok(Items::new(alloc));
-    let nodes = with_node(nodes, waiting(alloc, NodeTime::Fixed(Time(5)), None, 1));
-    let nodes = with_node(nodes, waiting(alloc, NodeTime::Fixed(Time(0)), None, 2));
-    let nodes = with_node(nodes, waiting(alloc, amount, None, 3));
-    let nodes = with_node(nodes, waiting(alloc, NodeTime::Fixed(Time(5)), Some(3), 4));
-    with_node(nodes, Ok(node(NodeKind::End, 0)))
+    let nodes = with_node(nodes, wait(alloc, NodeTime::Fixed(Time(5)), None, 1));
+    let nodes = with_node(nodes, wait(alloc, NodeTime::Fixed(Time(0)), None, 2));
+    let nodes = with_node(nodes, wait(alloc, amount, None, 3));
+    let nodes = with_node(nodes, wait(alloc, NodeTime::Fixed(Time(5)), Some(3), 4));
+    with_node(nodes, node(NodeKind::End, 0))
 }
 
 // Worked by hand: a constant time above zero alone is the wait's delay, and every other wait takes one delta cycle.

@@ -133,6 +133,16 @@ fn nodes_on_lines(alloc: Global, steps: &[Step], lines: &[u32]) -> Made<Items<No
     nodes
 }
 
+/// A node of line 1 that counts.
+pub(crate) fn node(kind: NodeKind, next: u32) -> Made<Node> {
+    Ok(Node {
+        kind,
+        line: 1,
+        counts: true,
+        next,
+    })
+}
+
 /// The nodes, and one more.
 pub(crate) fn with_node(nodes: Made<Items<Node>>, node: Made<Node>) -> Made<Items<Node>> {
     match node {
@@ -178,14 +188,14 @@ pub(crate) fn process_of(alloc: Global, part: Part) -> Made<Proc> {
     })
 }
 
-fn node_of(alloc: Global, step: Step, line: u32) -> Result<Node, AllocError> {
+fn node_of(alloc: Global, step: Step, line: u32) -> Made<Node> {
     let (kind, next) = match step {
         Step::Test(next, other) => (NodeKind::Test(NodeExpr::Variable(0), other), next),
         Step::Goto(next) => (NodeKind::Goto, next),
-        Step::Wait(ticks, next) => (waits(alloc, fixed(ticks), None)?, next),
-        Step::WaitEvent(e, next) => (waits(alloc, None, Some(e))?, next),
-        Step::WaitEither(ticks, e, next) => (waits(alloc, fixed(ticks), Some(e))?, next),
-        Step::WaitBy(x, next) => (waits(alloc, Some(amount(x)), None)?, next),
+        Step::Wait(ticks, next) => (waiting(alloc, fixed(ticks), None)?, next),
+        Step::WaitEvent(e, next) => (waiting(alloc, None, Some(e))?, next),
+        Step::WaitEither(ticks, e, next) => (waiting(alloc, fixed(ticks), Some(e))?, next),
+        Step::WaitBy(x, next) => (waiting(alloc, Some(amount(x)), None)?, next),
         Step::WaitStatic(e, next) => (NodeKind::Wait(on_events(alloc, e, true)?), next),
         Step::Trigger(e, next) => (NodeKind::Trigger(on_events(alloc, e, false)?), next),
         other => touching(other),
@@ -234,21 +244,23 @@ fn on_channel(step: Step) -> (NodeKind, u32) {
     }
 }
 
-// A wait for a time or an event, or for either.
-fn waits(
-    alloc: Global,
-    time: Option<NodeTime>,
-    event: Option<u32>,
-) -> Result<NodeKind, AllocError> {
-    Ok(NodeKind::Wait(NodeWait {
-        time,
-        events: listed(alloc, event)?,
-        is_static: false,
-    }))
+/// What waits for a time or an event, or for either.
+pub(crate) fn waiting(alloc: Global, time: Option<NodeTime>, event: Option<u32>) -> Made<NodeKind> {
+    match listed(alloc, event) {
+        Ok(events) => Ok(NodeKind::Wait(NodeWait {
+            time,
+            events,
+            is_static: false,
+        })),
+        Err(error) => {
+            drop(time);
+            Err(error)
+        }
+    }
 }
 
 // What waits on an event.
-fn on_events(alloc: Global, event: u32, is_static: bool) -> Result<NodeWait, AllocError> {
+fn on_events(alloc: Global, event: u32, is_static: bool) -> Made<NodeWait> {
     Ok(NodeWait {
         time: None,
         events: listed(alloc, Some(event))?,
@@ -257,7 +269,7 @@ fn on_events(alloc: Global, event: u32, is_static: bool) -> Result<NodeWait, All
 }
 
 /// At most one number.
-pub(crate) fn listed(alloc: Global, number: Option<u32>) -> Result<Items<u32>, AllocError> {
+pub(crate) fn listed(alloc: Global, number: Option<u32>) -> Made<Items<u32>> {
     let mut items = Items::new(alloc);
     if let Some(number) = number {
         items.push(number)?;

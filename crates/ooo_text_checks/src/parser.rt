@@ -67,6 +67,22 @@ fn sum_with(alloc: Global, operators: u32) -> Result<Vec<Symbol<'static>>, Alloc
 
 const END: u32 = 9000;
 
+// How many symbols stand after the expression that they begin with, or none where it is refused.
+fn left_by_expression(alloc: Global, symbols: &[Symbol<'static>]) -> Option<usize> {
+    match expression(alloc, symbols, column(END)) {
+        Ok((_, left)) => Some(left),
+        Err(_) => None,
+    }
+}
+
+// The same after a sum.
+fn left_by_sum(alloc: Global, symbols: &[Symbol<'static>]) -> Option<usize> {
+    match sum(alloc, symbols, column(END)) {
+        Ok((_, left)) => Some(left),
+        Err(_) => None,
+    }
+}
+
 // Whether the symbols are refused as an expression, with this breach in this column.
 fn is_refused(alloc: Global, symbols: &[Symbol<'static>], breach: ParseBreach, place: u32) -> bool {
     match expression(alloc, symbols, column(END)) {
@@ -85,10 +101,8 @@ fn parts_end_where_nothing_goes_on(rt: HostRuntime) {
         symbol(Terminal::Word, 5),
         symbol(Terminal::Semicolon, 6),
     ];
-    let whole = expression(rt.alloc(), &symbols, column(END));
-    assert!(rt; matches!(whole, Ok((_, 1))));
-    let first = sum(rt.alloc(), &symbols, column(END));
-    assert!(rt; matches!(first, Ok((_, 3))));
+    assert_eq!(rt; left_by_expression(rt.alloc(), &symbols), Some(1));
+    assert_eq!(rt; left_by_sum(rt.alloc(), &symbols), Some(3));
 }
 
 #[test]
@@ -154,8 +168,8 @@ fn brackets_may_hold_64_levels(rt: HostRuntime) -> Result<(), AllocError> {
 #[test]
 fn expressions_may_hold_1024_operators(rt: HostRuntime) -> Result<(), AllocError> {
     let most = sum_with(rt.alloc(), 1024)?;
-    let read = expression(rt.alloc(), &most, column(END));
-    assert!(rt; matches!(read, Ok((_, 0))));
+    assert_eq!(rt; left_by_expression(rt.alloc(), &most), Some(0));
+    drop(most);
     let more = sum_with(rt.alloc(), 1025)?;
     assert!(rt; is_refused(rt.alloc(), &more, ParseBreach::TooDeep, 1025));
     Ok(())

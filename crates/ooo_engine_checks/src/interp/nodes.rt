@@ -24,14 +24,14 @@ impl Code {
     /// A node that counts, of a line, before a node.
     pub fn counted(self, kind: Made<NodeKind>, line: u32, next: u32) -> Code {
         let Code { alloc, nodes } = self;
-        let nodes = joined(nodes, kind, line, true, next);
+        let nodes = with_node(nodes, node(kind, line, true, next));
         Code { alloc, nodes }
     }
 
     /// A node that doesn't count, before a node.
     pub fn passed(self, kind: Made<NodeKind>, next: u32) -> Code {
         let Code { alloc, nodes } = self;
-        let nodes = joined(nodes, kind, 0, false, next);
+        let nodes = with_node(nodes, node(kind, 0, false, next));
         Code { alloc, nodes }
     }
 
@@ -66,24 +66,19 @@ impl Code {
     }
 }
 
+fn node(kind: Made<NodeKind>, line: u32, counts: bool, next: u32) -> Made<Node> {
+    Ok(Node {
+        kind: kind?,
+        line,
+        counts,
+        next,
+    })
+}
+
 // The nodes, and one more.
-fn joined(
-    nodes: Made<Items<Node>>,
-    kind: Made<NodeKind>,
-    line: u32,
-    counts: bool,
-    next: u32,
-) -> Made<Items<Node>> {
-    match kind {
-        Ok(kind) => pushed(
-            nodes,
-            Node {
-                kind,
-                line,
-                counts,
-                next,
-            },
-        ),
+fn with_node(nodes: Made<Items<Node>>, node: Made<Node>) -> Made<Items<Node>> {
+    match node {
+        Ok(node) => pushed(nodes, node),
         Err(error) => {
             drop(nodes);
             Err(error)

@@ -3,18 +3,18 @@
 ghost use Rattle.std.specs.Prelude.{◌≡◌, IfOk};
 ghost use Rattle.ooo_engine_checks.specs.SmallJob.{IsSmall, small_design};
 
-use super::{MANY, is_over};
+use super::{MANY, Made, is_over};
 use ooo_code::{Design, Frame, Node, NodeKind, Proc, SegmentEntry};
 use ooo_interp::{Job, run_segment};
 use ooo_time::{Stamp, Time};
 use ooo_value::{BoundVariable, Kind, ProcessKind, Value};
 use sqlite_items::Items;
-use std::alloc::{AllocError, Global};
+use std::alloc::Global;
 use std::sync::Arc;
 use std::test::Fail;
 
 /// The design of a thread that prints a text and ends, and of one variable.
-fn design(alloc: Global, text: &[u8]) -> Result<Design, AllocError>
+fn design(alloc: Global, text: &[u8]) -> Made<Design>
     ensures { IfOk result (λ design. design ≡ small_design text.now) }
 {
     let text = Items::from_slice(alloc, text)?;
@@ -56,7 +56,7 @@ fn design(alloc: Global, text: &[u8]) -> Result<Design, AllocError>
 }
 
 /// A job of that design, at the start of the thread, with 3 in the variable.
-fn job(alloc: Global, text: &[u8]) -> Result<Job, AllocError>
+fn job(alloc: Global, text: &[u8]) -> Made<Job>
     ensures { IfOk result (λ job. IsSmall text.now job) }
 {
     let design = design(alloc, text)?;

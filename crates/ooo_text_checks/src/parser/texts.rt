@@ -164,26 +164,35 @@ fn counts_statements(rt: HostRuntime) -> Result<(), Fail> {
     Ok(())
 }
 
+// A sum with so many operators, between two texts.
+fn with_operators(
+    alloc: Global,
+    before: &str,
+    operators: usize,
+    after: &str,
+) -> Result<String, AllocError> {
+    let mut text = String::from_str(alloc, before)?;
+    text.push_str("1")?;
+    text.push_str(repeated(alloc, "+1", operators)?.as_str())?;
+    text.push_str(after)?;
+    Ok(text)
+}
+
 // 1,024 operators of one expression fit, and one more doesn't, wherever the expression stands.
 #[test]
 fn counts_operators(rt: HostRuntime) -> Result<(), Fail> {
     let alloc = rt.alloc();
     let rows = [
-        ("x = ", "1", ";", "TooDeep 2:2054"),
-        ("cout << ", "1", ";", "TooDeep 2:2058"),
-        ("f(1, ", "1", ");", "TooDeep 2:2055"),
-        ("x[", "1", "] = 1;", "TooDeep 2:2052"),
+        ("x = ", ";", "TooDeep 2:2054"),
+        ("cout << ", ";", "TooDeep 2:2058"),
+        ("f(1, ", ");", "TooDeep 2:2055"),
+        ("x[", "] = 1;", "TooDeep 2:2052"),
     ];
-    for (before, first, after, wanted) in rows {
-        let mut fits = String::from_str(alloc, before)?;
-        fits.push_str(first)?;
-        fits.push_str(repeated(alloc, "+1", 1024)?.as_str())?;
-        fits.push_str(after)?;
+    for (before, after, wanted) in rows {
+        let fits = with_operators(alloc, before, 1024, after)?;
         check_row(&rt, alloc, STATEMENT, fits.as_str(), "ok")?;
-        let mut more = String::from_str(alloc, before)?;
-        more.push_str(first)?;
-        more.push_str(repeated(alloc, "+1", 1025)?.as_str())?;
-        more.push_str(after)?;
+        drop(fits);
+        let more = with_operators(alloc, before, 1025, after)?;
         check_row(&rt, alloc, STATEMENT, more.as_str(), wanted)?;
     }
     Ok(())
