@@ -1,52 +1,50 @@
 use crate::expressions::expression;
 use crate::paper::Paper;
 use ooo_syntax::{Awaited, Event, TimeForm};
-use std::alloc::AllocError;
 
-pub(crate) fn time(paper: &mut Paper, form: &TimeForm) -> Result<(), AllocError> {
+pub(crate) fn time(paper: &mut Paper, form: &TimeForm) {
     match form {
         TimeForm::Zero(_) => paper.put("SC_ZERO_TIME"),
         TimeForm::Made(_, amount, scale) => {
-            paper.put("sc_time (")?;
-            expression(paper, amount)?;
-            paper.put(",")?;
-            paper.scale(*scale)?;
-            paper.put(")")
+            paper.put("sc_time (");
+            expression(paper, amount);
+            paper.put(",");
+            paper.scale(*scale);
+            paper.put(")");
         }
         TimeForm::Amount(amount, scale) => {
-            expression(paper, amount)?;
-            paper.put(",")?;
-            paper.scale(*scale)
+            expression(paper, amount);
+            paper.put(",");
+            paper.scale(*scale);
         }
     }
 }
 
 /// Events with a sign between them.
-pub(crate) fn events(paper: &mut Paper, sign: &str, list: &[Event]) -> Result<(), AllocError> {
+pub(crate) fn events(paper: &mut Paper, sign: &str, list: &[Event]) {
     for (n, event) in list.iter().enumerate() {
-        paper.between(n, sign)?;
-        paper.word(&event.name)?;
+        paper.between(n, sign);
+        paper.word(&event.name);
         if let Some(call) = &event.call {
-            paper.put(".")?;
-            paper.word(call)?;
-            paper.put("( )")?;
+            paper.put(".");
+            paper.word(call);
+            paper.put("( )");
         }
     }
-    Ok(())
 }
 
 /// What `wait` or `next_trigger` waits for, in its parentheses.
-pub(crate) fn awaited(paper: &mut Paper, what: &Awaited) -> Result<(), AllocError> {
-    paper.put("(")?;
+pub(crate) fn awaited(paper: &mut Paper, what: &Awaited) {
+    paper.put("(");
     match what {
         Awaited::Sensitive => {}
-        Awaited::Delay(delay) => time(paper, delay)?,
+        Awaited::Delay(delay) => time(paper, delay),
         Awaited::Until(most, list) => {
-            time(paper, most)?;
-            paper.put(",")?;
-            events(paper, "|", list.as_slice())?;
+            time(paper, most);
+            paper.put(",");
+            events(paper, "|", list.as_slice());
         }
-        Awaited::Events(list) => events(paper, "|", list.as_slice())?,
+        Awaited::Events(list) => events(paper, "|", list.as_slice()),
     }
-    paper.put(")")
+    paper.put(")");
 }

@@ -13,6 +13,8 @@ mod designs;
 #[cfg(test)]
 mod limits;
 #[cfg(test)]
+mod paper;
+#[cfg(test)]
 mod segments;
 #[cfg(test)]
 mod sketch;

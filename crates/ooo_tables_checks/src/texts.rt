@@ -4,13 +4,14 @@
 ghost use Rattle.std.specs.Prelude.{◌≡◌, ◌<◌, length};
 
 use crate::closed::are_closed;
+use crate::paper::Paper;
 use crate::sketch::{Sketch, design_of};
 use crate::tables::{Tables, tables_of};
 use ooo_access::Access;
 use ooo_code::{Segment, SegmentEntry};
 use ooo_segments::Edge;
 use ooo_time::{Delay, Time};
-use std::alloc::{AllocError, Global};
+use std::alloc::Global;
 use std::test::Fail;
 
 /// The tables of a design in words.
@@ -27,78 +28,58 @@ pub(crate) fn told(alloc: Global, sketch: Sketch) -> Result<String, Fail> {
 }
 
 fn told_of(alloc: Global, tables: Tables) -> Result<String, Fail> {
-    let mut text = String::new(alloc);
-    let told = tell(alloc, &mut text, &tables);
+    let mut paper = Paper::new(alloc);
+    tell(&mut paper, &tables);
     drop(tables);
-    told?;
-    Ok(text)
+    Ok(paper.into_text()?)
 }
 
-fn tell(alloc: Global, text: &mut String, tables: &Tables) -> Result<(), AllocError> {
-    tell_graph(alloc, text, tables)?;
-    tell_clashes(alloc, text, tables)?;
-    tell_advances(alloc, text, tables)
+fn tell(paper: &mut Paper, tables: &Tables) {
+    tell_graph(paper, tables);
+    tell_clashes(paper, tables);
+    tell_advances(paper, tables);
 }
 
 // The segments, their accesses, and the edges.
-fn tell_graph(alloc: Global, text: &mut String, tables: &Tables) -> Result<(), AllocError> {
+fn tell_graph(paper: &mut Paper, tables: &Tables) {
     for (number, segment) in tables.graph.segments.as_slice().iter().enumerate() {
-        tell_segment(alloc, text, number, segment)?;
+        tell_segment(paper, number, segment);
     }
     for (number, access) in tables.access.as_slice().iter().enumerate() {
-        tell_access(alloc, text, number, access)?;
+        tell_access(paper, number, access);
     }
     for edge in tables.graph.edges.as_slice() {
-        tell_edge(alloc, text, edge)?;
+        tell_edge(paper, edge);
     }
-    Ok(())
 }
 
 // A segment: where it begins, and its nodes.
-fn tell_segment(
-    alloc: Global,
-    text: &mut String,
-    number: usize,
-    segment: &Segment,
-) -> Result<(), AllocError> {
-    let process = segment.process;
-    let head = match segment.entry {
-        SegmentEntry::Start => format!(in alloc; "segment {number}: process {process} start")?,
-        SegmentEntry::After(wait) => {
-            format!(in alloc; "segment {number}: process {process} after {wait}")?
-        }
-    };
-    text.push_str(head.as_str())?;
-    tell_numbers(alloc, text, "nodes", segment.nodes.as_slice())?;
-    text.push_str("\n")
+fn tell_segment(paper: &mut Paper, number: usize, segment: &Segment) {
+    paper.named("segment ", number as u64);
+    paper.named(": process ", u64::from(segment.process));
+    match segment.entry {
+        SegmentEntry::Start => paper.put(" start"),
+        SegmentEntry::After(wait) => paper.named(" after ", u64::from(wait)),
+    }
+    tell_numbers(paper, "nodes", segment.nodes.as_slice());
+    paper.put("\n");
 }
 
 // Some numbers, where there are any.
-fn tell_numbers(
-    alloc: Global,
-    text: &mut String,
-    what: &str,
-    numbers: &[u32],
-) -> Result<(), AllocError> {
+fn tell_numbers(paper: &mut Paper, what: &str, numbers: &[u32]) {
     if numbers.is_empty() {
-        return Ok(());
+        return;
     }
-    text.push_str("; ")?;
-    text.push_str(what)?;
+    paper.put("; ");
+    paper.put(what);
     for n in numbers {
-        text.push_str(format!(in alloc; " {n}")?.as_str())?;
+        paper.named(" ", u64::from(*n));
     }
-    Ok(())
 }
 
 // What a segment touches, without what it doesn't.
-fn tell_access(
-    alloc: Global,
-    text: &mut String,
-    number: usize,
-    access: &Access,
-) -> Result<(), AllocError> {
-    text.push_str(format!(in alloc; "access {number}")?.as_str())?;
+fn tell_access(paper: &mut Paper, number: usize, access: &Access) {
+    paper.named("access ", number as u64);
     let parts = [
         ("reads", access.read.as_slice()),
         ("writes", access.written.as_slice()),
@@ -110,55 +91,49 @@ fn tell_access(
         ("waits", access.waited.as_slice()),
     ];
     for (what, numbers) in parts {
-        tell_numbers(alloc, text, what, numbers)?;
+        tell_numbers(paper, what, numbers);
     }
-    tell_notices(alloc, text, access.notified.as_slice())?;
-    text.push_str("\n")
+    tell_notices(paper, access.notified.as_slice());
+    paper.put("\n");
 }
 
 // The notifications, each for the next delta cycle or with its ticks.
-fn tell_notices(
-    alloc: Global,
-    text: &mut String,
-    notices: &[(u32, Option<Time>)],
-) -> Result<(), AllocError> {
+fn tell_notices(paper: &mut Paper, notices: &[(u32, Option<Time>)]) {
     if notices.is_empty() {
-        return Ok(());
+        return;
     }
-    text.push_str("; notifies")?;
+    paper.put("; notifies");
     for notice in notices {
-        let event = notice.0;
-        let told = match notice.1 {
-            None => format!(in alloc; " {event}")?,
-            Some(Time(ticks)) => format!(in alloc; " {event} in {ticks}")?,
-        };
-        text.push_str(told.as_str())?;
+        paper.named(" ", u64::from(notice.0));
+        if let Some(Time(ticks)) = notice.1 {
+            paper.named(" in ", ticks);
+        }
     }
-    Ok(())
 }
 
 // An edge within a process: its segments, and its ticks and delta cycles.
-fn tell_edge(alloc: Global, text: &mut String, edge: &Edge) -> Result<(), AllocError> {
-    let (from, to) = (edge.from, edge.to);
-    let (ticks, deltas) = (edge.delay.time.0, edge.delay.deltas);
-    let line = format!(in alloc; "edge {from} to {to}: {ticks}+{deltas}\n")?;
-    text.push_str(line.as_str())
+fn tell_edge(paper: &mut Paper, edge: &Edge) {
+    paper.named("edge ", u64::from(edge.from));
+    paper.named(" to ", u64::from(edge.to));
+    paper.named(": ", edge.delay.time.0);
+    paper.named("+", u64::from(edge.delay.deltas));
+    paper.put("\n");
 }
 
 // A row for each segment: `s` where it clashes with the segment of the column at one stamp, `e` where only at an earlier
 // one, and `.` where never; `?` where the table contradicts itself.
-fn tell_clashes(alloc: Global, text: &mut String, tables: &Tables) -> Result<(), AllocError> {
+fn tell_clashes(paper: &mut Paper, tables: &Tables) {
     for b in 0..tables.access.len() as u32 {
-        text.push_str(format!(in alloc; "clashes {b}: ")?.as_str())?;
+        paper.named("clashes ", u64::from(b));
+        paper.put(": ");
         for g in 0..tables.access.len() as u32 {
             let strictly = tables.clashes.clash(b, g, true);
             let same = tables.clashes.clash(b, g, false);
             let listed = tables.clashes.clashing(g).contains(&b);
-            text.push_str(letter(strictly, same, listed))?;
+            paper.put(letter(strictly, same, listed));
         }
-        text.push_str("\n")?;
+        paper.put("\n");
     }
-    Ok(())
 }
 
 // When two segments clash, by whether they do strictly and at one stamp, and whether the first is listed for the second.
@@ -173,21 +148,23 @@ fn letter(strictly: bool, same: bool, listed: bool) -> &'static str {
 }
 
 // A row for each segment: the ticks and delta cycles of the least advance to that of the column, and `-` where none is.
-fn tell_advances(alloc: Global, text: &mut String, tables: &Tables) -> Result<(), AllocError> {
+fn tell_advances(paper: &mut Paper, tables: &Tables) {
     for a in 0..tables.access.len() as u32 {
-        text.push_str(format!(in alloc; "least {a}:")?.as_str())?;
+        paper.named("least ", u64::from(a));
+        paper.put(":");
         for b in 0..tables.access.len() as u32 {
-            tell_advance(alloc, text, tables.advances.least(a, b))?;
+            tell_advance(paper, tables.advances.least(a, b));
         }
-        text.push_str("\n")?;
+        paper.put("\n");
     }
-    Ok(())
 }
 
-fn tell_advance(alloc: Global, text: &mut String, least: Option<Delay>) -> Result<(), AllocError> {
-    let Some(delay) = least else {
-        return text.push_str(" -");
-    };
-    let (ticks, deltas) = (delay.time.0, delay.deltas);
-    text.push_str(format!(in alloc; " {ticks}+{deltas}")?.as_str())
+fn tell_advance(paper: &mut Paper, least: Option<Delay>) {
+    match least {
+        None => paper.put(" -"),
+        Some(delay) => {
+            paper.named(" ", delay.time.0);
+            paper.named("+", u64::from(delay.deltas));
+        }
+    }
 }
