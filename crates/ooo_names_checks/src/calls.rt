@@ -192,48 +192,61 @@ fn the_answers_are_right_among_few_functions(rt: HostRuntime) -> Result<(), Fail
     Ok(())
 }
 
-// Calls, and of each whether it lies on a cycle.
+// Calls, and of each whether it lies on a cycle; all are among the functions below a number.
 #[derive(Drop)]
 struct Known {
     calls: Vec<Call>,
     on_cycle: Vec<bool>,
+    functions: usize,
 }
 
-// Adds calls among functions of their own: these numbers are counted from the first.
-fn add(alloc: Global, known: &mut Known, first: usize, calls: &[Call]) -> Result<(), AllocError> {
-    for call in calls {
-        known
-            .on_cycle
-            .push(leads(alloc, calls, call.to, call.from)?)?;
-        known.calls.push(Call {
-            from: first.saturating_add(call.from),
-            to: first.saturating_add(call.to),
-        })?;
+impl Known {
+    fn new(alloc: Global) -> Known {
+        Known {
+            calls: Vec::new(alloc),
+            on_cycle: Vec::new(alloc),
+            functions: 0,
+        }
     }
-    Ok(())
+
+    // Adds calls among some functions of their own.
+    fn add(&mut self, alloc: Global, functions: usize, calls: &[Call]) -> Result<(), AllocError> {
+        for call in calls {
+            self.on_cycle
+                .push(leads(alloc, calls, call.to, call.from)?)?;
+            self.calls.push(Call {
+                from: self.functions.saturating_add(call.from),
+                to: self.functions.saturating_add(call.to),
+            })?;
+        }
+        self.functions = self.functions.saturating_add(functions);
+        Ok(())
+    }
+
+    // Adds each choice of these calls.
+    fn add_choices(
+        &mut self,
+        alloc: Global,
+        functions: usize,
+        with_itself: bool,
+        choices: u32,
+    ) -> Result<(), AllocError> {
+        for choice in 0..choices {
+            let calls = chosen(alloc, functions, with_itself, choice)?;
+            self.add(alloc, functions, calls.as_slice())?;
+        }
+        Ok(())
+    }
 }
 
 // The claim of the search is right of all calls together where it is right of each choice among its functions.
 #[test]
 fn the_search_is_right_among_few_functions(rt: HostRuntime) -> Result<(), Fail> {
-    let alloc = rt.alloc();
-    let mut known = Known {
-        calls: Vec::new(alloc),
-        on_cycle: Vec::new(alloc),
-    };
-    let mut first = 0usize;
-    for choice in 0..512u32 {
-        let calls = chosen(alloc, 3, true, choice)?;
-        add(alloc, &mut known, first, calls.as_slice())?;
-        first = first.saturating_add(3);
-    }
-    for choice in 0..4096u32 {
-        let calls = chosen(alloc, 4, false, choice)?;
-        add(alloc, &mut known, first, calls.as_slice())?;
-        first = first.saturating_add(4);
-    }
+    let mut known = Known::new(rt.alloc());
+    known.add_choices(rt.alloc(), 3, true, 512)?;
+    known.add_choices(rt.alloc(), 4, false, 4096)?;
     assert_eq!(rt; known.calls.len(), 26_880);
-    let answers = Calls::make(alloc, known.calls.as_slice())?;
+    let answers = Calls::make(rt.alloc(), known.calls.as_slice())?;
     for (i, comes_back) in known.on_cycle.iter().enumerate() {
         assert_eq!(rt; answers.is_on_cycle(i), Some(*comes_back), "call {i}");
     }
