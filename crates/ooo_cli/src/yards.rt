@@ -1,13 +1,16 @@
 //! A yard over the boards of two worked rows, by the calls of its passes.
 
 ghost use Rattle.std.specs.Prelude.{◌≡◌, ◌≤◌, ℕ, None, Some, IfOk, IfSome, OnOk, length};
+ghost use Rattle.ooo_code.specs.Sound.{IsSound};
 ghost use Rattle.ooo_dispatch.specs.declared.step.Step.TheVariants.{Commit};
+ghost use Rattle.ooo_front.specs.Layers.{HasFew};
 ghost use Rattle.ooo_lexer.specs.declared.position.TheConstants.{MOST_BYTES};
+ghost use Rattle.ooo_tables.specs.Tables.{AreTables};
 ghost use Rattle.ooo_workers.specs.Boards.{IsQuiet};
 ghost use Rattle.ooo_workers.specs.Passes.{Has, Stepped};
 
 use ooo_board::Board;
-use ooo_code::Limits;
+use ooo_code::{Design, Limits};
 use ooo_front::{Accepted, front};
 use ooo_interp::{Job, run_segment};
 use ooo_tables::Tables;
@@ -53,28 +56,72 @@ const LIMITS: Limits = Limits {
     statements: 1_000_000,
 };
 
+// The design of a text. None where the text is refused.
+fn design_of(alloc: Global, text: &[u8]) -> Option<Design>
+    requires { length text.now ≤ MOST_BYTES }
+    ensures sound { IfSome result IsSound }
+    ensures few { IfSome result HasFew }
+{
+    match front(alloc, text) {
+        Ok(accepted) => {
+            let Accepted { design, .. } = accepted;
+            Some(design)
+        }
+        Err(_) => None,
+    }
+}
+
+// The board of a design, on which nothing was done.
+fn board_for(alloc: Global, design: Design) -> Result<Board, AllocError>
+    requires sound { IsSound design }
+    requires few { HasFew design }
+    ensures { IfOk result IsQuiet }
+{
+    match Tables::make(alloc, &design) {
+        Ok(tables) => board_with(alloc, shared(alloc, design), tables),
+        Err(error) => {
+            drop(design);
+            Err(error)
+        }
+    }
+}
+
+fn shared(alloc: Global, design: Design) -> Result<Arc<Design>, AllocError>
+    ensures { IfOk result (λ made. made.value ≡ design) }
+{
+    Ok(Arc::new(alloc, design)?)
+}
+
+// The same with its tables.
+fn board_with(
+    alloc: Global,
+    design: Result<Arc<Design>, AllocError>,
+    tables: Tables,
+) -> Result<Board, AllocError>
+    requires sound { IfOk design (λ made. IsSound made.value) }
+    requires tables { IfOk design (λ made. AreTables made.value tables) }
+    ensures { IfOk result IsQuiet }
+{
+    match design {
+        Ok(design) => Board::make(alloc, design, tables, LIMITS),
+        Err(error) => {
+            drop(tables);
+            Err(error)
+        }
+    }
+}
+
 // The board of a model, on which nothing was done. None where the text is refused.
 fn board_of(alloc: Global, text: &[u8]) -> Result<Option<Board>, AllocError>
     requires { length text.now ≤ MOST_BYTES }
     ensures { IfOk result (λ board. IfSome board IsQuiet) }
 {
-    let Ok(accepted) = front(alloc, text) else {
-        return Ok(None);
-    };
-    let Accepted { design, .. } = accepted;
-    let tables = Tables::make(alloc, &design);
-    let design = Arc::new(alloc, design);
-    let tables = tables?;
-    let design = match design {
-        Ok(design) => design,
-        Err(error) => {
-            drop(tables);
-            return Err(error.into());
-        }
-    };
-    match Board::make(alloc, design, tables, LIMITS) {
-        Ok(board) => Ok(Some(board)),
-        Err(error) => Err(error),
+    match design_of(alloc, text) {
+        Some(design) => match board_for(alloc, design) {
+            Ok(board) => Ok(Some(board)),
+            Err(error) => Err(error),
+        },
+        None => Ok(None),
     }
 }
 
@@ -118,6 +165,16 @@ fn do_one<R: Wait>(
     }
 }
 
+// Does the last activation of the row second-thread-first, and says whether it was that and the run is over then.
+fn is_last<R: Wait>(rt: &R, alloc: Global, yard: &Yard, pass: &mut Pass) -> Result<bool, AllocError>
+    requires own { pass.old.yard ≡ yard.now.table.shared.table_id }
+    requires idle { pass.old.out ≡ None }
+{
+    let done = do_one(rt, alloc, yard, pass)?;
+    let is_over = matches!(yard.take(rt, pass)?, Turn::Over);
+    Ok(done == Some((1, Time(5_000))) && is_over)
+}
+
 #[test]
 fn two_jobs_are_out_together(rt: HostRuntime) -> Result<(), Fail> {
     let Some(board) = board_of(rt.alloc(), SECOND_THREAD_FIRST)? else {
@@ -137,8 +194,7 @@ fn two_jobs_are_out_together(rt: HostRuntime) -> Result<(), Fail> {
     let two = hand_in(&rt, rt.alloc(), &yard, &mut second, other);
     one?;
     two?;
-    assert!(rt; do_one(&rt, rt.alloc(), &yard, &mut first)? == Some((1, Time(5_000))));
-    assert!(rt; matches!(yard.take(&rt, &mut first)?, Turn::Over));
+    assert!(rt; is_last(&rt, rt.alloc(), &yard, &mut first)?);
     Ok(())
 }
 
