@@ -3,7 +3,7 @@ use sqlite_items::Items;
 
 /// What a segment touches, and the events on which its entry waits: numbers of variables, signals, fifos and events. Each
 /// list is ascending, and nothing stands in it twice.
-#[derive(Debug, Drop)]
+#[derive(Drop)]
 pub struct Access {
     /// Variables that are read. An array is one variable.
     pub read: Items<u32>,

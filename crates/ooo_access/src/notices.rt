@@ -14,7 +14,7 @@ use ooo_value::BoundEvent;
 use std::alloc::{AllocError, Global};
 
 // The channels of which events are notified: signals that are written, fifos that are read and fifos that are written.
-#[derive(Debug, Drop)]
+#[derive(Drop)]
 struct Called {
     changed: NumberSet,
     taken: NumberSet,

@@ -4,7 +4,7 @@ ghost use Rattle.ooo_access.specs.Told.{number_of};
 use ooo_time::Time;
 
 // A thing that a node touches, by its number.
-#[derive(Clone, Copy, Debug)]
+#[derive(Clone, Copy)]
 pub(crate) enum Told {
     Reads(u32),
     Writes(u32),
@@ -23,7 +23,7 @@ pub(crate) enum Told {
 }
 
 // What is told by one number: the parts of an access, and of which channels the events are notified.
-#[derive(Clone, Copy, Debug)]
+#[derive(Clone, Copy)]
 pub(crate) enum Part {
     Read,
     Written,

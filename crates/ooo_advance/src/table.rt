@@ -14,7 +14,7 @@ use std::alloc::{AllocError, Global};
 use std::marker::Model;
 
 /// Of any two segments of a design, the least delay by which the second can come after the first.
-#[derive(Debug, Drop)]
+#[derive(Drop)]
 pub struct AdvanceTable {
     rows: Vec<Items<Option<Delay>>>,
 }

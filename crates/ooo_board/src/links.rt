@@ -26,7 +26,7 @@ use sqlite_items::Items;
 use std::alloc::{AllocError, Global};
 
 /// A channel of which a segment sees something: a signal, or the ends of a fifo that the segment holds.
-#[derive(Clone, Copy, PartialEq, Eq, Debug)]
+#[derive(Clone, Copy)]
 pub(crate) struct Watched {
     pub(crate) channel: u32,
     pub(crate) takes: bool,
@@ -34,7 +34,7 @@ pub(crate) struct Watched {
 }
 
 /// What is looked up at each step.
-#[derive(Debug, Drop)]
+#[derive(Drop)]
 pub(crate) struct Links {
     /// Of each segment, the channels of which it sees something, ascending.
     pub(crate) watched: Vec<Items<Watched>>,

@@ -4,7 +4,7 @@ use sqlite_items::Items;
 
 /// How the last activation of a process left it: what it waits for, and the segment that runs then. As a simulation starts
 /// it waits since before time zero.
-#[derive(Debug, Drop)]
+#[derive(Drop)]
 pub(crate) struct Waiting {
     pub(crate) segment: u32,
     pub(crate) timeout: Option<Stamp>,
@@ -13,7 +13,7 @@ pub(crate) struct Waiting {
 }
 
 /// What a board keeps of a process.
-#[derive(Debug, Drop)]
+#[derive(Drop)]
 pub(crate) struct Process {
     /// Its locals, unless its job is out.
     pub(crate) slots: Items<Value>,

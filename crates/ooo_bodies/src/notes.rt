@@ -8,7 +8,7 @@ use sqlite_items::Items;
 use std::alloc::{AllocError, Global};
 
 /// A call, and the number of the member function that is called.
-#[derive(Clone, Copy, Debug, PartialEq, Eq)]
+#[derive(Clone, Copy)]
 pub struct Call {
     pub at: Position,
     pub function: usize,
@@ -16,7 +16,7 @@ pub struct Call {
 
 /// What is kept of a text that is checked: the breach that is told of those met so far, and all calls, waits and
 /// `next_trigger`s of a body in the order of the text.
-#[derive(Debug, Drop)]
+#[derive(Drop)]
 pub struct Notes {
     pub breach: Option<Breach>,
     pub calls: Items<Call>,

@@ -3,7 +3,7 @@ use ooo_value::{Kind, Op, Value};
 use sqlite_items::{Boxed, Items};
 
 /// An expression. Numbers are those of slots, variables and channels; parentheses are gone.
-#[derive(Debug, Drop)]
+#[derive(Drop)]
 pub enum BoundExpr {
     Constant(Value),
     /// The value of a parameter or a local of this kind, by its slot.
@@ -42,7 +42,7 @@ pub enum BoundExpr {
 }
 
 /// A time.
-#[derive(Debug, Drop)]
+#[derive(Drop)]
 pub enum BoundTime {
     /// A time that is known before the simulation.
     Fixed(Time),
@@ -51,7 +51,7 @@ pub enum BoundTime {
 }
 
 /// What `wait` or `next_trigger` waits for: a time, events, or both (IEEE 1666-2011, 5.2.17 and 5.2.18).
-#[derive(Debug, Drop)]
+#[derive(Drop)]
 pub struct BoundWait {
     pub time: Option<BoundTime>,
     /// The numbers of the events.

@@ -4,7 +4,7 @@ use ooo_value::{BoundChannel, BoundEvent, BoundVariable, Kind, Names, ProcessKin
 use sqlite_items::Items;
 
 /// A model with its instances made and its ports bound. Everything is named by its number in its list.
-#[derive(Debug, Drop)]
+#[derive(Drop)]
 pub struct Bound {
     pub processes: Items<BoundProcess>,
     pub functions: Items<BoundFunction>,
@@ -18,7 +18,7 @@ pub struct Bound {
 }
 
 /// A process of an instance, or a clock's.
-#[derive(Debug, Drop)]
+#[derive(Drop)]
 pub struct BoundProcess {
     pub kind: ProcessKind,
     pub body: Items<BoundStat>,
@@ -29,7 +29,7 @@ pub struct BoundProcess {
 }
 
 /// A function of an instance that a process of this instance reaches by calls.
-#[derive(Debug, Drop)]
+#[derive(Drop)]
 pub struct BoundFunction {
     /// The kind of what it gives; a function of `void` gives nothing.
     pub result: Option<Kind>,

@@ -3,7 +3,7 @@ use ooo_value::{Kind, Name, Op};
 use sqlite_items::{Boxed, Items};
 
 /// What a value is put into. The value is converted to the kind of the place.
-#[derive(Debug, Drop)]
+#[derive(Drop)]
 pub enum BoundTarget {
     /// Nothing: the value is dropped.
     Nothing,
@@ -18,7 +18,7 @@ pub enum BoundTarget {
 }
 
 /// What gives a value: a whole right side.
-#[derive(Debug, Drop)]
+#[derive(Drop)]
 pub enum BoundRight {
     Value(BoundExpr),
     /// A call of a function, by its number, with its arguments.
@@ -32,7 +32,7 @@ pub enum BoundRight {
 }
 
 /// What a print writes.
-#[derive(Debug, Drop)]
+#[derive(Drop)]
 pub enum BoundItem {
     Value(BoundExpr),
     Text(Name),
@@ -41,7 +41,7 @@ pub enum BoundItem {
 }
 
 /// A statement without statements in it.
-#[derive(Debug, Drop)]
+#[derive(Drop)]
 pub enum BoundSimple {
     /// A local with its initial value, `=`, `write` of a signal, or a call whose value is dropped.
     Assign(BoundTarget, BoundRight),
@@ -63,14 +63,14 @@ pub enum BoundSimple {
 }
 
 /// A statement without statements in it, and the line of its first token.
-#[derive(Debug, Drop)]
+#[derive(Drop)]
 pub struct LinedSimple {
     pub line: u32,
     pub simple: BoundSimple,
 }
 
 /// A statement. A number before its parts is the line of its first token.
-#[derive(Debug, Drop)]
+#[derive(Drop)]
 pub enum BoundStat {
     /// The statements one after the other. A declaration of locals is a block of them.
     Block(Items<BoundStat>),

@@ -1,5 +1,5 @@
 /// A call: the number of the function in which it stands, and of the function that it calls.
-#[derive(Clone, Copy, Debug, PartialEq, Eq)]
+#[derive(Clone, Copy)]
 pub struct Call {
     /// The function in which the call stands.
     pub from: usize,

@@ -12,7 +12,7 @@ use std::alloc::{AllocError, Global};
 use std::marker::Model;
 
 /// The calls among functions, with the answers which of them lie on a cycle of calls.
-#[derive(Debug, Drop)]
+#[derive(Drop)]
 pub struct Calls {
     calls: Vec<Call>,
     called: Vec<bool>,

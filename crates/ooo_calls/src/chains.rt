@@ -3,28 +3,28 @@ use std::alloc::{AllocError, Global};
 use std::mem;
 
 /// Whether a search goes along the calls, or against them.
-#[derive(Clone, Copy, Debug, PartialEq, Eq)]
+#[derive(Clone, Copy)]
 pub(crate) enum Direction {
     Along,
     Against,
 }
 
 /// Of each function a chain of the calls that begin at it in a direction, from which they are taken one by one.
-#[derive(Debug, Drop)]
+#[derive(Drop)]
 pub(crate) struct Chains {
     heads: Vec<Option<usize>>,
     links: Vec<Link>,
 }
 
 // What a chain has of a call: the function at its end, and the next call of the chain.
-#[derive(Clone, Copy, Debug)]
+#[derive(Clone, Copy)]
 struct Link {
     end: usize,
     next: Option<usize>,
 }
 
 /// A call that was taken from a chain: its place, and the function at its end.
-#[derive(Clone, Copy, Debug)]
+#[derive(Clone, Copy)]
 pub(crate) struct Taken {
     pub(crate) call: usize,
     pub(crate) end: usize,

@@ -6,7 +6,7 @@ use sqlite_items::at;
 use std::alloc::{AllocError, Global};
 
 /// Of each function the place of a call, and how many such calls it is away from the root of its group.
-#[derive(Debug, Drop)]
+#[derive(Drop)]
 pub(crate) struct Steps {
     pub(crate) calls: Vec<usize>,
     pub(crate) depths: Vec<usize>,
@@ -14,7 +14,7 @@ pub(crate) struct Steps {
 
 /// What a search claims: of each function the number of its group; of each group its root; and of each function a call
 /// by which it comes nearer to the root, and a call by which the root comes nearer to it.
-#[derive(Debug, Drop)]
+#[derive(Drop)]
 pub(crate) struct Claim {
     pub(crate) groups: Vec<usize>,
     pub(crate) roots: Vec<usize>,

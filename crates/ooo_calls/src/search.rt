@@ -74,7 +74,7 @@ fn is_new(found: &mut Vec<bool>, function: usize) -> bool {
 }
 
 // Trees of functions, each found from its root: of each function the number of its tree and its step, and the roots.
-#[derive(Debug, Drop)]
+#[derive(Drop)]
 struct Forest {
     found: Vec<bool>,
     groups: Vec<usize>,

@@ -26,7 +26,7 @@ use std::alloc::{AllocError, Global};
 use std::marker::Model;
 
 /// The channels and events of a design, by the effects that were applied to them.
-#[derive(Debug, Drop)]
+#[derive(Drop)]
 pub struct Bank {
     channels: Vec<ChannelState>,
     kinds: Vec<BoundEvent>,

@@ -22,7 +22,7 @@ use ooo_value::{BoundChannel, BoundEvent, ChannelKind, Value};
 use std::alloc::{AllocError, Global};
 
 /// What is kept of a channel.
-#[derive(Debug, Drop)]
+#[derive(Drop)]
 pub enum ChannelState {
     Signal(SignalState),
     Fifo(FifoState),

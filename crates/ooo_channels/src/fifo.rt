@@ -20,7 +20,7 @@ use std::alloc::{AllocError, Global};
 use std::collections::VecDeque;
 
 /// What is kept of a fifo (IEEE 1666-2011, 6.23): the fifo in the cycle of the last operation on it, and its history.
-#[derive(Debug, Drop)]
+#[derive(Drop)]
 pub struct FifoState {
     /// The cycle of the last operation.
     pub stamp: Stamp,

@@ -9,7 +9,7 @@ use ooo_time::{Stamp, Time};
 use std::alloc::{AllocError, Global};
 
 /// An event of a channel, which is kept where the design has it.
-#[derive(Debug, Drop)]
+#[derive(Drop)]
 pub enum Notice {
     /// An event that the design has.
     Kept(Event),

@@ -29,7 +29,7 @@ use std::collections::VecDeque;
 
 /// What is kept of a signal (IEEE 1666-2011, 6.4): its versions, of which the newest is of the cycle of the last request,
 /// and its history up to that cycle.
-#[derive(Debug, Drop)]
+#[derive(Drop)]
 pub struct SignalState {
     /// The newest version.
     pub newest: Version,

@@ -15,7 +15,7 @@ use ooo_value::Value;
 use std::collections::VecDeque;
 
 /// A version of a signal: the signal in a cycle, before the update of that cycle (IEEE 1666-2011, 6.4).
-#[derive(Clone, Copy, Debug)]
+#[derive(Clone, Copy)]
 pub struct Version {
     /// The cycle.
     pub stamp: Stamp,

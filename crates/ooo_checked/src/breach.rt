@@ -7,7 +7,7 @@ use std::error::Error;
 use std::fmt;
 
 /// What is wrong with the names and types of a text. Of two breaches at one place the one that stands first here is told.
-#[derive(Clone, Copy, Debug, PartialEq, Eq)]
+#[derive(Clone, Copy, Debug)]
 pub enum TypeBreach {
     /// A word that denotes nothing where it stands, or that is no call of the thing before its dot.
     UnknownName,
@@ -84,14 +84,14 @@ impl fmt::Display for TypeBreach {
 impl Error for TypeBreach {}
 
 /// A breach and the position of the token that meets it.
-#[derive(Clone, Copy, Debug, PartialEq, Eq)]
+#[derive(Clone, Copy)]
 pub struct Breach {
     pub what: TypeBreach,
     pub at: Position,
 }
 
 /// Why a text was not checked.
-#[derive(Clone, Copy, Debug, PartialEq, Eq)]
+#[derive(Clone, Copy)]
 pub enum TypeError {
     /// The text is refused: what is wrong, and where.
     Refused(TypeBreach, Position),

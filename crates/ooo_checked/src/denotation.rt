@@ -73,14 +73,14 @@ pub struct Denotation {
 }
 
 /// A name with what it denotes.
-#[derive(Debug, Drop)]
+#[derive(Drop)]
 pub struct Resolved {
     pub word: Word,
     pub denotes: Denotation,
 }
 
 /// A call of a channel or a port, by the word after the dot (IEEE 1666-2011, 6.4 and 6.23).
-#[derive(Clone, Copy, Debug, PartialEq, Eq)]
+#[derive(Clone, Copy)]
 pub enum Method {
     /// It has no such call.
     Nothing,
@@ -103,7 +103,7 @@ pub enum Method {
 }
 
 /// Which event of a thing is meant where an event stands.
-#[derive(Clone, Copy, Debug, PartialEq, Eq)]
+#[derive(Clone, Copy)]
 pub enum EventForm {
     /// No event is meant.
     Nothing,
@@ -122,7 +122,7 @@ pub enum EventForm {
 }
 
 /// How an event of a channel or a port is called, by the word after the dot (IEEE 1666-2011, 6.4, 6.8, 6.23 to 6.26).
-#[derive(Clone, Copy, Debug, PartialEq, Eq)]
+#[derive(Clone, Copy)]
 pub enum EventWord {
     /// `value_changed_event`
     ValueChangedEvent,

@@ -86,6 +86,7 @@ fn board_for(alloc: Global, design: Design) -> Result<Board, AllocError>
     }
 }
 
+// A design that a board and its job may share.
 fn shared(alloc: Global, design: Design) -> Result<Arc<Design>, AllocError>
     ensures { IfOk result (λ made. made.value ≡ design) }
 {

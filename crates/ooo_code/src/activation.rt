@@ -7,7 +7,7 @@ use sqlite_items::Items;
 pub type Cells = Items<Value>;
 
 /// Where a process is: where it goes on, or went on last, and its locals.
-#[derive(Debug, Drop)]
+#[derive(Drop)]
 pub struct Frame {
     pub entry: SegmentEntry,
     pub slots: Items<Value>,
@@ -32,7 +32,7 @@ pub enum Effect {
 }
 
 /// What a process sees of a channel, by the channel's number.
-#[derive(Debug, Drop)]
+#[derive(Drop)]
 pub enum Seen {
     /// A signal's value, and whether it changed in the delta cycle before.
     Signal(u32, Value, bool),
@@ -41,14 +41,14 @@ pub enum Seen {
 }
 
 /// What a process waits for: a time, events, or both. Of neither it waits for ever.
-#[derive(Debug, Drop)]
+#[derive(Drop)]
 pub struct WaitOn {
     pub time: Option<Time>,
     pub events: Items<u32>,
 }
 
 /// How an activation ends. The last number is that of a line.
-#[derive(Debug, Drop)]
+#[derive(Drop)]
 pub enum JobEnd {
     Waits(WaitOn),
     Ended,

@@ -3,7 +3,7 @@ use ooo_value::{BoundChannel, BoundEvent, BoundVariable, Kind, ProcessKind};
 use sqlite_items::Items;
 
 /// A model as lowered code. Nodes, processes, variables, channels and events are named by their numbers.
-#[derive(Debug, Drop)]
+#[derive(Drop)]
 pub struct Design {
     pub nodes: Items<Node>,
     pub processes: Items<Proc>,
@@ -13,7 +13,7 @@ pub struct Design {
 }
 
 /// A process of a design.
-#[derive(Debug, Drop)]
+#[derive(Drop)]
 pub struct Proc {
     pub kind: ProcessKind,
     /// Its first node, at which it starts.

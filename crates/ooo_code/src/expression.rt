@@ -2,7 +2,7 @@ use ooo_value::{Kind, Op, Value};
 use sqlite_items::Boxed;
 
 /// An expression in a node. Numbers are those of slots, variables and channels.
-#[derive(Debug, Drop)]
+#[derive(Drop)]
 pub enum NodeExpr {
     Constant(Value),
     /// The value of a local.

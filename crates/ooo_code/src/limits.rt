@@ -1,7 +1,7 @@
 use ooo_time::Time;
 
 /// What bounds a run.
-#[derive(Clone, Copy, PartialEq, Eq, Debug)]
+#[derive(Clone, Copy)]
 pub struct Limits {
     /// The last time at which anything runs.
     pub stop: Time,

@@ -3,7 +3,7 @@ use ooo_time::{Scale, Time};
 use sqlite_items::Items;
 
 /// One step of a process.
-#[derive(Debug, Drop)]
+#[derive(Drop)]
 pub struct Node {
     pub kind: NodeKind,
     /// The line of its statement's first token.
@@ -15,7 +15,7 @@ pub struct Node {
 }
 
 /// What a node does.
-#[derive(Debug, Drop)]
+#[derive(Drop)]
 pub enum NodeKind {
     /// A slot gets a value.
     Set(u32, NodeExpr),
@@ -51,7 +51,7 @@ pub enum NodeKind {
 }
 
 /// A time in a node.
-#[derive(Debug, Drop)]
+#[derive(Drop)]
 pub enum NodeTime {
     Fixed(Time),
     /// A value of this unit.
@@ -59,7 +59,7 @@ pub enum NodeTime {
 }
 
 /// What a wait or a trigger waits for: a time, events, or both.
-#[derive(Debug, Drop)]
+#[derive(Drop)]
 pub struct NodeWait {
     pub time: Option<NodeTime>,
     pub events: Items<u32>,

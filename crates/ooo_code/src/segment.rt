@@ -1,7 +1,7 @@
 use sqlite_items::Items;
 
 /// The nodes that a process may run from its start, or after a wait, up to its next wait.
-#[derive(Debug, Drop)]
+#[derive(Drop)]
 pub struct Segment {
     pub process: u32,
     pub entry: SegmentEntry,

@@ -13,7 +13,7 @@ use sqlite_items::{Items, at};
 use std::alloc::{AllocError, Global};
 
 // The events that an access notifies or cancels, and those of them that are of type sc_event.
-#[derive(Debug, Drop)]
+#[derive(Drop)]
 pub(crate) struct Called {
     pub(crate) all: Items<u32>,
     pub(crate) own: Items<u32>,

@@ -2,7 +2,7 @@ ghost use Rattle.std.specs.Prelude.{◌≡◌};
 ghost use Rattle.ooo_conflicts.specs.Kinds.{is_clash};
 
 // When two segments clash.
-#[derive(Clone, Copy, PartialEq, Eq, Debug)]
+#[derive(Clone, Copy)]
 pub(crate) enum ClashKind {
     // Never.
     Apart,

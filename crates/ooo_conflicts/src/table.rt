@@ -16,7 +16,7 @@ use std::alloc::{AllocError, Global};
 use std::marker::Model;
 
 /// Of any two segments of a design, whether they clash, and of each segment those that clash strictly with it.
-#[derive(Debug, Drop)]
+#[derive(Drop)]
 pub struct ClashTable {
     rows: Vec<Items<ClashKind>>,
     // Of each segment those that clash strictly with it.

@@ -2,7 +2,7 @@ use ooo_value::Value;
 
 /// What a name means in one instance of its module, or in the file or in `sc_main`: a value that it keeps, or the number of
 /// what it denotes in the model.
-#[derive(Clone, Copy, Debug, PartialEq, Eq)]
+#[derive(Clone, Copy)]
 pub enum Meaning {
     /// No value and no number of its own: a module, a function that no process reaches.
     Nothing,

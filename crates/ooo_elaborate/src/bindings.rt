@@ -14,7 +14,7 @@ use sqlite_items::{Items, at};
 use std::alloc::{AllocError, Global};
 
 /// What each port is bound to, as far as the bindings were looked at, and what is refused.
-#[derive(Debug, Drop)]
+#[derive(Drop)]
 pub struct Links {
     pub ends: Items<Meaning>,
     pub refusal: Option<Refusal>,

@@ -11,7 +11,7 @@ use sqlite_items::Items;
 use std::alloc::{AllocError, Global};
 
 /// A function of an instance.
-#[derive(Clone, Copy, Debug, PartialEq, Eq)]
+#[derive(Clone, Copy)]
 pub struct WalkedFunction {
     /// The number of the instance.
     pub instance: usize,
@@ -20,7 +20,7 @@ pub struct WalkedFunction {
 }
 
 /// The functions of a model in the order of their numbers, and its instances, whose names mean these numbers.
-#[derive(Debug, Drop)]
+#[derive(Drop)]
 pub struct Numbered {
     pub functions: Items<WalkedFunction>,
     pub instances: Items<WalkedInstance>,

@@ -13,21 +13,21 @@ use sqlite_items::{Items, at};
 use std::alloc::{AllocError, Global};
 
 /// An end of a channel, by the channel's number: the writing of a signal, or an end of a fifo (IEEE 1666-2011, 6.4 and 6.23).
-#[derive(Clone, Copy, Debug, PartialEq, Eq)]
+#[derive(Clone, Copy)]
 pub enum End {
     Writing(u32),
     Reading(u32),
 }
 
 /// The first two processes that hold an end.
-#[derive(Clone, Copy, Debug, PartialEq, Eq)]
+#[derive(Clone, Copy)]
 pub struct Holders {
     pub first: Option<u32>,
     pub second: Option<u32>,
 }
 
 /// Who holds the ends of a channel.
-#[derive(Clone, Copy, Debug, PartialEq, Eq)]
+#[derive(Clone, Copy)]
 pub struct Held {
     pub writers: Holders,
     pub readers: Holders,

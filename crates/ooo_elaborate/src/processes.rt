@@ -24,7 +24,7 @@ use sqlite_items::{Boxed, Items, at};
 use std::alloc::{AllocError, Global};
 
 /// What the bodies of all instances stand in.
-#[derive(Debug, Drop)]
+#[derive(Drop)]
 pub struct Model {
     /// What the names of the file mean.
     pub file: Items<Meaning>,

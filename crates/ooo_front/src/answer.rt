@@ -8,7 +8,7 @@ use ooo_walk::{ElabError, Refusal};
 
 /// What a text is accepted as, that no layer refuses. Its design has no more than
 /// [`Graph::GREATEST_SEGMENTS`](ooo_segments::Graph::GREATEST_SEGMENTS) segments.
-#[derive(Debug, Drop)]
+#[derive(Drop)]
 pub struct Accepted {
     /// Its bound model.
     pub bound: Bound,
@@ -19,7 +19,7 @@ pub struct Accepted {
 }
 
 /// Why a text was not accepted: by the layer that refuses it, or since memory ran out.
-#[derive(Debug, Drop)]
+#[derive(Drop)]
 pub enum Refused {
     /// The text can't be cut into tokens: what is wrong, and where.
     Lexer(LexBreach, Position),

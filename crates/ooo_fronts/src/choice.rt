@@ -13,7 +13,7 @@ use crate::fronts::least_of;
 use ooo_time::{Place, Stamp};
 
 /// What a process does.
-#[derive(Clone, Copy, PartialEq, Eq, Debug)]
+#[derive(Clone, Copy)]
 pub enum State {
     /// It waits until it may run at its front, if it has one.
     Waiting,

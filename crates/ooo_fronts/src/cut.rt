@@ -15,7 +15,7 @@ use ooo_history::End;
 use ooo_time::{Place, Stamp, Time};
 
 /// That the activation of a place ended the run, and how.
-#[derive(Clone, Copy, PartialEq, Eq, Debug)]
+#[derive(Clone, Copy)]
 pub struct Break {
     pub place: Place,
     pub end: End,
@@ -23,7 +23,7 @@ pub struct Break {
 
 /// The cut of a board, below which a place has to be: by the limits, and by what was committed that ends the run. The limit
 /// of deltas cuts off only where the least front comes to it, so that front is told with each question.
-#[derive(Clone, Copy, PartialEq, Eq, Debug)]
+#[derive(Clone, Copy)]
 pub struct Cut {
     /// The last time at which anything runs.
     pub stop: Time,

@@ -20,7 +20,7 @@ use std::marker::Model;
 
 /// The front of each process, and how many clashes hold each of them up. There are at most as many processes as a design may
 /// have segments.
-#[derive(Debug, Drop)]
+#[derive(Drop)]
 pub struct Fronts {
     fronts: Vec<Option<Front>>,
     counts: Vec<u32>,

@@ -18,7 +18,7 @@ use std::marker::Model;
 
 /// What a front can come to, whatever its stamp: to which segments it leads, and which processes it can hold up by these.
 /// It is made once of a design's tables, so that a front that changes is held against no others but those.
-#[derive(Debug, Drop)]
+#[derive(Drop)]
 pub struct Reaches {
     // Of each segment those to which it leads.
     leads: Vec<Items<u32>>,
@@ -128,7 +128,7 @@ impl Reaches {
 }
 
 // How a segment stands to another one.
-#[derive(Clone, Copy, PartialEq, Eq, Debug)]
+#[derive(Clone, Copy)]
 enum Relation {
     // It leads to the other.
     Leads,

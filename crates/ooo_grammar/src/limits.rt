@@ -13,7 +13,7 @@ pub const OPERATOR_LIMIT: u64 = 1024;
 pub const LEVEL_LIMIT: usize = 65;
 
 /// Why no tree was read.
-#[derive(Clone, Copy, PartialEq, Eq)]
+#[derive(Clone, Copy)]
 pub enum ReadError {
     /// How many tokens are left from the refused one on.
     Syntax(usize),

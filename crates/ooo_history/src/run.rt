@@ -3,7 +3,7 @@ use ooo_value::{Fault, Value};
 use sqlite_items::Items;
 
 /// What happened on a channel.
-#[derive(Clone, Copy, PartialEq, Eq, PartialOrd, Ord, Debug)]
+#[derive(Clone, Copy, PartialEq, Eq, Debug)]
 pub enum What {
     /// A value was read from a fifo (IEEE 1666-2011, 6.23).
     Took,
@@ -14,7 +14,7 @@ pub enum What {
 }
 
 /// One thing that happened on a channel: when it did, and the value that was read or written, or is the new one.
-#[derive(Clone, Copy, PartialEq, Eq, Debug)]
+#[derive(Clone, Copy)]
 pub struct Entry {
     pub stamp: Stamp,
     pub what: What,
@@ -22,7 +22,7 @@ pub struct Entry {
 }
 
 /// What a process printed at a stamp.
-#[derive(Debug, Drop)]
+#[derive(Drop)]
 pub struct Piece {
     pub place: Place,
     pub bytes: Items<u8>,
@@ -46,7 +46,7 @@ pub enum End {
 }
 
 /// What a run gives.
-#[derive(Debug, Drop)]
+#[derive(Drop)]
 pub struct Run {
     /// What was printed, in order of place.
     pub pieces: Items<Piece>,

@@ -4,7 +4,7 @@ ghost use Rattle.ooo_interp.specs.Running.{room_of};
 use ooo_code::Node;
 
 /// How much of an activation is left.
-#[derive(Clone, Copy, Debug)]
+#[derive(Clone, Copy)]
 pub struct Left {
     /// How many statements may still count.
     pub statements: u32,

@@ -11,7 +11,7 @@ use sqlite_items::Items;
 use std::alloc::{AllocError, Global};
 
 /// The process that acts, the entry of the segment that it runs, and the stamp at which.
-#[derive(Debug, Drop)]
+#[derive(Drop)]
 pub struct Activation<'a> {
     pub process: &'a Proc,
     pub entry: SegmentEntry,
@@ -71,14 +71,14 @@ impl Emitted {
 }
 
 /// What a process waits for: a time, events that its design lends, or both.
-#[derive(Debug, Drop)]
+#[derive(Drop)]
 pub struct Pause<'a> {
     pub time: Option<Time>,
     pub events: &'a Items<u32>,
 }
 
 /// How an activation ends. The last number is that of a line.
-#[derive(Debug, Drop)]
+#[derive(Drop)]
 pub enum Halt<'a> {
     /// Its process waits, and goes on from this entry.
     Waits(SegmentEntry, Pause<'a>),
@@ -101,7 +101,7 @@ impl<'a> Halt<'a> {
 }
 
 /// Why no node follows a node.
-#[derive(Debug, Drop)]
+#[derive(Drop)]
 pub enum Break<'a> {
     /// The activation is over.
     Halts(Halt<'a>),

@@ -4,7 +4,7 @@ use crate::fifo_values::FifoValues;
 use ooo_value::Value;
 
 /// How much of a fifo a process took and filled itself. The values stand elsewhere.
-#[derive(Debug, Drop)]
+#[derive(Drop)]
 pub struct FifoPort {
     channel: u32,
     taken: u32,

@@ -12,7 +12,7 @@ use std::alloc::AllocError;
 
 /// Where an activation begins: its process by its number, the entry of the segment that it runs, its stamp, and how
 /// many statements it may count.
-#[derive(Clone, Copy, Debug)]
+#[derive(Clone, Copy)]
 pub struct Start {
     pub process: u32,
     pub entry: SegmentEntry,

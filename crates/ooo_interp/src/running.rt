@@ -17,7 +17,7 @@ use sqlite_items::at;
 use std::alloc::AllocError;
 
 // What a turn of the loop over nodes comes to.
-#[derive(Debug, Drop)]
+#[derive(Drop)]
 pub enum Turn<'a> {
     // On to this node.
     Goes(u32),

@@ -4,7 +4,7 @@ ghost use Rattle.ooo_lexer.specs.Heads.{flaw};
 use crate::breach::LexBreach;
 
 /// Why no piece stands first in a list of bytes: what is wrong, and how many bytes stand before that.
-#[derive(Clone, Copy, Debug, PartialEq, Eq)]
+#[derive(Clone, Copy)]
 pub(crate) struct Flaw {
     pub(crate) breach: LexBreach,
     pub(crate) before: usize,

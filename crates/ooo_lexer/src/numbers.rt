@@ -6,7 +6,7 @@ use crate::breach::LexBreach;
 use crate::bytes::{Class, is_digit};
 
 /// The kind of a number (ISO/IEC 14882, [basic.fundamental]).
-#[derive(Clone, Copy, Debug, PartialEq, Eq)]
+#[derive(Clone, Copy, PartialEq, Eq)]
 pub enum NumberKind {
     /// `int`, of 32 bits.
     Int,
@@ -19,7 +19,7 @@ pub enum NumberKind {
 }
 
 /// A number: its kind, which holds its value.
-#[derive(Clone, Copy, Debug, PartialEq, Eq)]
+#[derive(Clone, Copy, PartialEq, Eq)]
 pub struct Number {
     /// Its kind.
     pub kind: NumberKind,
@@ -28,14 +28,14 @@ pub struct Number {
 }
 
 /// How a number's digits are written.
-#[derive(Clone, Copy, Debug, PartialEq, Eq)]
+#[derive(Clone, Copy)]
 pub(crate) enum Base {
     Decimal,
     Hexadecimal,
 }
 
 /// What follows a number's digits.
-#[derive(Clone, Copy, Debug, PartialEq, Eq)]
+#[derive(Clone, Copy)]
 pub(crate) enum Suffix {
     /// Nothing.
     Bare,

@@ -197,7 +197,7 @@ pub(crate) fn current_expr(t: Around, into: &BoundTarget) -> Result<NodeExpr, Al
 }
 
 /// What happens to a fifo, for which a blocking call of it waits (IEEE 1666-2011, 6.23).
-#[derive(Clone, Copy, PartialEq, Eq, Debug)]
+#[derive(Clone, Copy)]
 pub(crate) enum Change {
     Written,
     Read,

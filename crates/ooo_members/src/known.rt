@@ -53,7 +53,7 @@ pub struct FunctionFacts {
 }
 
 /// By which words a function is registered as a process.
-#[derive(Clone, Copy, Debug, PartialEq, Eq)]
+#[derive(Clone, Copy)]
 pub struct Registration {
     /// By `SC_THREAD`.
     pub as_thread: bool,

@@ -9,7 +9,7 @@ pub trait Gate: Sync {
 }
 
 /// A gate that is always open.
-#[derive(Clone, Copy, Debug, Default)]
+#[derive(Clone, Copy)]
 pub struct OpenGate;
 
 impl Gate for OpenGate {

@@ -8,14 +8,14 @@ use std::alloc::{AllocError, Global};
 use std::marker::Model;
 
 /// A process by its number, and the stamp at which it is due. The least is the next to run.
-#[derive(Clone, Copy, Debug, PartialEq, Eq, PartialOrd, Ord)]
+#[derive(Clone, Copy, PartialEq, Eq, PartialOrd, Ord)]
 pub struct Due {
     pub stamp: Stamp,
     pub process: usize,
 }
 
 /// When each process is due, and the next of them.
-#[derive(Debug, Drop)]
+#[derive(Drop)]
 pub struct Agenda {
     dues: Vec<Option<Stamp>>,
     queue: DueQueue,

@@ -12,7 +12,7 @@ use ooo_time::Stamp;
 use std::alloc::{AllocError, Global};
 
 /// What came of the lowest process that is due now.
-#[derive(Clone, Copy, Debug)]
+#[derive(Clone, Copy)]
 pub enum Pass {
     /// No process is due now.
     Nobody,
@@ -23,7 +23,7 @@ pub enum Pass {
 }
 
 /// What follows a cycle.
-#[derive(Clone, Copy, Debug)]
+#[derive(Clone, Copy)]
 pub enum CycleEnd {
     /// The run is over, with the histories up to the cycle of a stamp.
     Over(End, Stamp),

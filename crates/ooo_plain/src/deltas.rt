@@ -10,7 +10,7 @@ use std::marker::Model;
 
 /// Processes that are due in delta cycles, in two rows: while those of the present cycle have their turns, others become due
 /// in the next.
-#[derive(Debug, Drop)]
+#[derive(Drop)]
 pub struct Deltas {
     even: Row,
     odd: Row,

@@ -14,7 +14,7 @@ use std::marker::Model;
 
 /// Processes and the stamps at which they are due. Those of delta cycles that come in ascending order stand in rows, and all
 /// others in an ordered queue.
-#[derive(Debug, Drop)]
+#[derive(Drop)]
 pub struct DueQueue {
     rows: Deltas,
     others: BTreeSet<Due>,

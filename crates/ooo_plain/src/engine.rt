@@ -26,7 +26,7 @@ use std::alloc::{AllocError, Global};
 use std::mem;
 
 /// Where a process is: where it goes on, or went on last, and its locals.
-#[derive(Debug, Drop)]
+#[derive(Drop)]
 pub struct Process {
     pub entry: SegmentEntry,
     pub slots: Vec<Value>,

@@ -10,7 +10,7 @@ use std::collections::VecDeque;
 use std::marker::Model;
 
 /// Processes that are due in one delta cycle, which isn't the first of its time, ascending by their numbers.
-#[derive(Debug, Drop)]
+#[derive(Drop)]
 pub struct Row {
     stamp: Stamp,
     processes: VecDeque<usize>,

@@ -11,14 +11,14 @@ use sqlite_items::Items;
 use std::alloc::{AllocError, Global};
 
 /// What a process waits for: events, and the stamp of its time-out. Of neither it waits for ever.
-#[derive(Debug, Drop)]
+#[derive(Drop)]
 pub struct Awaited {
     pub events: Items<u32>,
     pub timeout: Option<Stamp>,
 }
 
 /// When each process is due, what it waits for, and for each event those that may wait on it.
-#[derive(Debug, Drop)]
+#[derive(Drop)]
 pub struct Schedule {
     pub agenda: Agenda,
     pub awaited: Vec<Awaited>,

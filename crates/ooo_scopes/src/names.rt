@@ -16,7 +16,7 @@ const UNKNOWN: Denotation = Denotation {
 };
 
 /// A declaration of a name: where its bytes begin, what it denotes, and the place of the declaration that it hides.
-#[derive(Clone, Copy, Debug, Drop)]
+#[derive(Clone, Copy)]
 struct Declared {
     from: usize,
     denotes: Denotation,
@@ -26,7 +26,7 @@ struct Declared {
 /// The names that are known with what they denote, the latest first.
 ///
 /// The bytes of the names stand one after another, and a map has the place of the latest declaration of each name.
-#[derive(Debug, Drop)]
+#[derive(Drop)]
 pub(crate) struct Names {
     alloc: Global,
     places: Places,

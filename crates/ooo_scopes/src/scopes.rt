@@ -7,7 +7,7 @@ use std::alloc::{AllocError, Global};
 use std::marker::Model;
 
 /// The blocks that a place of a text stands in, the innermost first, and the names that each declares, the latest first.
-#[derive(Debug, Drop)]
+#[derive(Drop)]
 pub struct Scopes {
     names: Names,
     counts: Vec<usize>,

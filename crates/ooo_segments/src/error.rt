@@ -6,7 +6,7 @@ use std::error::Error;
 use std::fmt;
 
 /// Why a design has no graph.
-#[derive(Clone, Copy, PartialEq, Eq, Debug)]
+#[derive(Clone, Copy, Debug)]
 pub enum GraphError {
     /// It has more segments than it may have.
     TooManySegments,

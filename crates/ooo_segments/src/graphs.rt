@@ -12,7 +12,7 @@ pub struct Edge {
 }
 
 /// The segments of a design, and the edges within its processes. A segment's number is its place among the segments.
-#[derive(Debug, Drop)]
+#[derive(Drop)]
 pub struct Graph {
     /// All segments, process by process: the start of each first, and then its waits in the order of their nodes.
     pub segments: Items<Segment>,

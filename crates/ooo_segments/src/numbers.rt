@@ -6,7 +6,7 @@ use std::alloc::{AllocError, Global};
 use std::marker::Model;
 
 /// A set of numbers, which has a mark for each number up to the greatest one that it ever had.
-#[derive(Debug, Drop)]
+#[derive(Drop)]
 pub struct NumberSet {
     marks: Vec<bool>,
 }

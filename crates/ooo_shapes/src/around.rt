@@ -1,7 +1,7 @@
 use ooo_value::Kind;
 
 /// How many slots the locals of a function have, by kind: for each slot number of that kind one.
-#[derive(Clone, Copy, PartialEq, Eq, Debug)]
+#[derive(Clone, Copy)]
 pub struct Widths {
     pub bools: u64,
     pub ints: u64,
@@ -12,7 +12,7 @@ pub struct Widths {
 
 /// What stands around a statement: where its locals stand, where the result of its function goes, and where its jumps
 /// lead.
-#[derive(Clone, Copy, PartialEq, Eq, Debug)]
+#[derive(Clone, Copy)]
 pub struct Around {
     /// The first slot of the locals.
     pub base: u32,

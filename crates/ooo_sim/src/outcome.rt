@@ -5,7 +5,7 @@ use ooo_front::Refused;
 use ooo_words::WordsError;
 
 /// Why a call refuses what it is asked for.
-#[derive(Debug, Drop)]
+#[derive(Drop)]
 pub enum Refusal {
     /// The words have a breach.
     Words(WordsError),
@@ -31,7 +31,7 @@ impl Refusal {
 }
 
 /// What a reply comes to.
-#[derive(Debug, Drop)]
+#[derive(Drop)]
 pub enum Verdict {
     /// The run ended by its stop time, by idleness or by `sc_stop`, or what is asked of the text without a run is told.
     Done,
@@ -58,7 +58,7 @@ impl Verdict {
 }
 
 /// What kept a call from replying, or from writing its whole reply.
-#[derive(Clone, Copy, Debug, PartialEq, Eq)]
+#[derive(Clone, Copy)]
 pub enum Failure {
     /// The source failed.
     Source,
@@ -82,7 +82,7 @@ impl Failure {
 }
 
 /// How a call ended: its reply is written whole, or it failed.
-#[derive(Debug, Drop)]
+#[derive(Drop)]
 pub enum Outcome {
     /// The reply is written; this is what it comes to.
     Replied(Verdict),

@@ -10,7 +10,7 @@ use std::alloc::{AllocError, Global};
 const CHUNK: usize = 4096;
 
 /// Why a text was not read.
-#[derive(Clone, Copy, PartialEq, Eq, Debug)]
+#[derive(Clone, Copy)]
 pub(crate) enum ReadError {
     /// The source failed.
     Failed,

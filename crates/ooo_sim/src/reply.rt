@@ -27,7 +27,7 @@ use sqlite_items::{Boxed, Items};
 use std::alloc::{AllocError, Global};
 
 /// What a call would write, and what that comes to.
-#[derive(Debug, Drop)]
+#[derive(Drop)]
 pub struct Reply {
     pub verdict: Verdict,
     pub text: Items<u8>,

@@ -7,7 +7,7 @@ use ooo_words::{Command, RunOptions, WordsError, read};
 use std::alloc::{AllocError, Global};
 
 /// What is told of a run.
-#[derive(Clone, Copy, Debug, PartialEq, Eq)]
+#[derive(Clone, Copy)]
 pub enum Told {
     /// Its report: what was printed, what happened on each channel, and how it ended.
     Report,
@@ -16,7 +16,7 @@ pub enum Told {
 }
 
 /// What is asked of a text.
-#[derive(Clone, Copy, Debug, PartialEq, Eq)]
+#[derive(Clone, Copy)]
 pub enum Wanted {
     /// What its model's run gives. Its report, by the sequential scheduler, is what the command `plain` asks for.
     Run(Told, RunOptions),
@@ -27,7 +27,7 @@ pub enum Wanted {
 }
 
 /// What the words ask for.
-#[derive(Debug, Drop)]
+#[derive(Drop)]
 pub enum Request {
     /// Something of the text that the source gives, without workers.
     OfText(Wanted),

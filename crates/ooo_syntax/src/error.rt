@@ -45,7 +45,7 @@ impl fmt::Display for ParseBreach {
 impl Error for ParseBreach {}
 
 /// Why tokens were not read as a tree.
-#[derive(Clone, Copy, Debug, PartialEq, Eq)]
+#[derive(Clone, Copy, PartialEq, Eq)]
 pub enum ParseError {
     /// The tokens are refused: what is wrong, and where.
     Refused(ParseBreach, Position),

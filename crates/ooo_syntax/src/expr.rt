@@ -3,7 +3,7 @@ use ooo_lexer::Position;
 use sqlite_items::{Boxed, Items};
 
 /// A binary operator.
-#[derive(Clone, Copy, PartialEq, Eq)]
+#[derive(Clone, Copy)]
 pub enum BinaryOp {
     /// `||`
     Either,
@@ -44,7 +44,7 @@ pub enum BinaryOp {
 }
 
 /// A sign before an operand.
-#[derive(Clone, Copy, PartialEq, Eq)]
+#[derive(Clone, Copy)]
 pub enum PrefixOp {
     /// `!`
     Not,

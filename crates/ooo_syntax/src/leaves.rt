@@ -2,28 +2,28 @@ use ooo_lexer::Position;
 use ooo_value::{Name, Value};
 
 /// A word of the model's own.
-#[derive(Debug, Drop)]
+#[derive(Drop)]
 pub struct Word {
     pub name: Name,
     pub position: Position,
 }
 
 /// A number.
-#[derive(Clone, Copy, Debug, PartialEq, Eq)]
+#[derive(Clone, Copy, PartialEq, Eq)]
 pub struct Number {
     pub value: Value,
     pub position: Position,
 }
 
 /// A text, by the bytes that it stands for: its escapes are one byte each.
-#[derive(Debug, Drop)]
+#[derive(Drop)]
 pub struct Text {
     pub value: Name,
     pub position: Position,
 }
 
 /// How a type is written.
-#[derive(Clone, Copy, Debug, PartialEq, Eq)]
+#[derive(Clone, Copy)]
 pub enum TypeForm {
     /// `bool`
     Bool,
@@ -44,7 +44,7 @@ pub enum TypeForm {
 }
 
 /// A type, by its first word.
-#[derive(Clone, Copy, Debug, PartialEq, Eq)]
+#[derive(Clone, Copy)]
 pub struct TypeName {
     pub form: TypeForm,
     pub position: Position,

@@ -47,7 +47,7 @@ pub struct Fields {
 }
 
 /// Which port it is.
-#[derive(Clone, Copy, Debug, PartialEq, Eq)]
+#[derive(Clone, Copy)]
 pub enum PortWord {
     /// `sc_in`
     In,
@@ -70,7 +70,7 @@ pub struct Ports {
 }
 
 /// Which channel it is.
-#[derive(Clone, Copy, Debug, PartialEq, Eq)]
+#[derive(Clone, Copy)]
 pub enum ChannelWord {
     /// `sc_signal`
     Signal,
@@ -108,7 +108,7 @@ pub struct Param {
 }
 
 /// What a function gives.
-#[derive(Clone, Copy, Debug, PartialEq, Eq)]
+#[derive(Clone, Copy)]
 pub enum ResultForm {
     /// `void`
     Nothing,

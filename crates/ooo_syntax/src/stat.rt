@@ -36,7 +36,7 @@ pub enum Awaited {
 }
 
 /// An assignment's sign.
-#[derive(Clone, Copy, Debug, PartialEq, Eq)]
+#[derive(Clone, Copy)]
 pub enum AssignOp {
     /// `=`
     Set,
@@ -63,7 +63,7 @@ pub enum AssignOp {
 }
 
 /// `++` or `--`
-#[derive(Clone, Copy, Debug, PartialEq, Eq)]
+#[derive(Clone, Copy)]
 pub enum StepOp {
     Up,
     Down,

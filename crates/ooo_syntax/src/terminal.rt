@@ -1,5 +1,5 @@
 /// What a token is to the grammar: a word of one's own, a number, a text, or one of its words and signs.
-#[derive(Clone, Copy, PartialEq, Eq)]
+#[derive(Clone, Copy)]
 pub enum Terminal {
     /// A word that is none of the others.
     Word,

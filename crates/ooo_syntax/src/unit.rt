@@ -5,7 +5,7 @@ use ooo_lexer::Position;
 use sqlite_items::{Boxed, Items};
 
 /// A namespace that a text uses.
-#[derive(Clone, Copy, Debug, PartialEq, Eq)]
+#[derive(Clone, Copy)]
 pub enum Library {
     /// `sc_core`
     ScCore,

@@ -15,7 +15,7 @@ use sqlite_items::Items;
 use std::alloc::{AllocError, Global};
 
 /// The segments of a design, what each touches, which clash, and how soon one can come after another.
-#[derive(Debug, Drop)]
+#[derive(Drop)]
 pub struct Tables {
     /// The segments, and the edges within processes.
     pub graph: Graph,

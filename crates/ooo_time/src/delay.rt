@@ -7,7 +7,7 @@ use crate::time::Time;
 
 /// How much later than a stamp something may come at the earliest: a time, and then delta cycles. Ordered by the time,
 /// then by the delta cycles.
-#[derive(Clone, Copy, PartialEq, Eq, PartialOrd, Ord, Hash, Debug, Default)]
+#[derive(Clone, Copy, PartialEq, Eq, PartialOrd, Ord, Debug)]
 pub struct Delay {
     pub time: Time,
     pub deltas: u32,

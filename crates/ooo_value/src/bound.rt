@@ -2,7 +2,7 @@ use crate::kinds::Kind;
 use crate::values::Value;
 
 /// Which of the two kinds of processes one is (IEEE 1666-2011, 5.2.10 and 5.2.11).
-#[derive(Clone, Copy, PartialEq, Eq, Debug)]
+#[derive(Clone, Copy)]
 pub enum ProcessKind {
     /// Registered by `SC_THREAD`, or a clock's: it starts once and may wait.
     Thread,
@@ -11,7 +11,7 @@ pub enum ProcessKind {
 }
 
 /// A member variable of an instance.
-#[derive(Clone, Copy, PartialEq, Eq, Debug)]
+#[derive(Clone, Copy)]
 pub struct BoundVariable {
     /// The kind of each element.
     pub kind: Kind,
@@ -22,7 +22,7 @@ pub struct BoundVariable {
 }
 
 /// Which of the two kinds of channels one is.
-#[derive(Clone, Copy, PartialEq, Eq, Debug)]
+#[derive(Clone, Copy)]
 pub enum ChannelKind {
     /// An `sc_signal` or an `sc_clock` (IEEE 1666-2011, 6.4 and 6.7).
     Signal,
@@ -31,7 +31,7 @@ pub enum ChannelKind {
 }
 
 /// A channel of the model.
-#[derive(Clone, Copy, PartialEq, Eq, Debug)]
+#[derive(Clone, Copy)]
 pub struct BoundChannel {
     /// Signal or fifo.
     pub kind: ChannelKind,
@@ -42,7 +42,7 @@ pub struct BoundChannel {
 }
 
 /// An event of the model. A channel's events name the channel by its number.
-#[derive(Clone, Copy, PartialEq, Eq, Debug)]
+#[derive(Clone, Copy)]
 pub enum BoundEvent {
     /// An `sc_event` of its own (IEEE 1666-2011, 5.10).
     Own,

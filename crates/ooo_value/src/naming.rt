@@ -5,7 +5,7 @@ use std::alloc::{AllocError, Global};
 use std::marker::Model;
 
 /// A name, as the bytes that spell it. Contracts see it as the list of these bytes.
-#[derive(Debug, Drop)]
+#[derive(Drop)]
 pub struct Name {
     bytes: Vec<u8>,
 }
@@ -68,7 +68,7 @@ impl Name {
 }
 
 /// The full names of a model's processes and channels, each in the order of its numbers.
-#[derive(Debug, Drop)]
+#[derive(Drop)]
 pub struct Names {
     /// Process `p`'s name at place `p`.
     pub processes: Items<Name>,

@@ -13,7 +13,7 @@ use sqlite_items::Items;
 use std::alloc::{AllocError, Global};
 
 /// Where the parts of a module stand. A constant of the file has an empty one.
-#[derive(Debug, Drop)]
+#[derive(Drop)]
 pub struct Plan {
     /// The place of the module among the declarations of the file.
     pub item: usize,

@@ -9,7 +9,7 @@ use std::error::Error;
 use std::fmt;
 
 /// Why a text can't be elaborated.
-#[derive(Clone, Copy, Debug, PartialEq, Eq)]
+#[derive(Clone, Copy, Debug)]
 pub enum ElabBreach {
     /// A port that no binding names.
     PortNotBound,
@@ -74,7 +74,7 @@ impl fmt::Display for ElabBreach {
 impl Error for ElabBreach {}
 
 /// What is refused: why, where, and the full names of what it is about.
-#[derive(Debug, Drop)]
+#[derive(Drop)]
 pub struct Refusal {
     pub what: ElabBreach,
     /// Of a declared name, of a process's name where it is registered, of the first token of a constant expression or of
@@ -85,7 +85,7 @@ pub struct Refusal {
 }
 
 /// Why a text was not elaborated.
-#[derive(Debug, Drop)]
+#[derive(Drop)]
 pub enum ElabError {
     /// The text is refused.
     Refused(Refusal),

@@ -7,14 +7,14 @@ use ooo_value::{BoundChannel, BoundEvent, BoundVariable, Fault, Name, ProcessKin
 use sqlite_items::Items;
 
 /// What a constant expression gives, and where its first token stands.
-#[derive(Clone, Copy, Debug, PartialEq, Eq)]
+#[derive(Clone, Copy)]
 pub struct Evaluated {
     pub answer: Result<Value, Fault>,
     pub at: Position,
 }
 
 /// A channel as it was declared.
-#[derive(Debug, Drop)]
+#[derive(Drop)]
 pub struct WalkedChannel {
     pub bound: BoundChannel,
     /// Whether it is an `sc_clock`, to which no port is bound that writes.
@@ -28,7 +28,7 @@ pub struct WalkedChannel {
 }
 
 /// A port of an instance.
-#[derive(Debug, Drop)]
+#[derive(Drop)]
 pub struct WalkedPort {
     /// What sort of port it is, with its type.
     pub form: Thing,
@@ -39,7 +39,7 @@ pub struct WalkedPort {
 }
 
 /// An instance of a module.
-#[derive(Debug, Drop)]
+#[derive(Drop)]
 pub struct WalkedInstance {
     /// The number of its module among the names of the file.
     pub module_number: usize,
@@ -48,7 +48,7 @@ pub struct WalkedInstance {
 }
 
 /// Where a process comes from.
-#[derive(Clone, Copy, Debug, PartialEq, Eq)]
+#[derive(Clone, Copy)]
 pub enum ProcessForm {
     /// A clock's: its channel, half its period, and the line of its declaration.
     Clock(u32, Time, u32),
@@ -57,7 +57,7 @@ pub enum ProcessForm {
 }
 
 /// A process.
-#[derive(Debug, Drop)]
+#[derive(Drop)]
 pub struct WalkedProcess {
     pub form: ProcessForm,
     /// Its full name.
@@ -65,7 +65,7 @@ pub struct WalkedProcess {
 }
 
 /// A binding of a port.
-#[derive(Clone, Copy, Debug, PartialEq, Eq)]
+#[derive(Clone, Copy)]
 pub struct WalkedBinding {
     /// The number of the port.
     pub port: u32,
@@ -76,7 +76,7 @@ pub struct WalkedBinding {
 }
 
 /// What is known of the instance that is walked, or of `sc_main`.
-#[derive(Debug, Drop)]
+#[derive(Drop)]
 pub struct Here {
     /// Its full name; that of `sc_main` is empty.
     pub name: Name,
@@ -89,7 +89,7 @@ pub struct Here {
 }
 
 /// What has been walked of a text.
-#[derive(Debug, Drop)]
+#[derive(Drop)]
 pub struct Walk {
     /// What each name of the file means that was walked so far.
     pub file: Items<Meaning>,

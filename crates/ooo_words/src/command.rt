@@ -1,7 +1,7 @@
 use ooo_time::Time;
 
 /// What is asked of a run.
-#[derive(Clone, Copy, PartialEq, Eq, Debug)]
+#[derive(Clone, Copy, Debug)]
 pub struct RunOptions {
     /// The stop time in place of the one that the text gives to sc_start, if one is given.
     pub stop: Option<Time>,
@@ -12,7 +12,7 @@ pub struct RunOptions {
 }
 
 /// What the words ask for.
-#[derive(Clone, Copy, PartialEq, Eq, Debug)]
+#[derive(Clone, Copy, Debug)]
 pub enum Command {
     /// The report of a run by this many workers.
     Run {

@@ -21,7 +21,7 @@ const MOST_ITEMS: u32 = 10_000;
 const MOST_SEED: u32 = u32::MAX;
 
 /// A command, by its name.
-#[derive(Clone, Copy, PartialEq, Eq, Debug)]
+#[derive(Clone, Copy)]
 pub enum CommandName {
     Run,
     Plain,
@@ -31,7 +31,7 @@ pub enum CommandName {
 }
 
 /// An option, by its name.
-#[derive(Clone, Copy, PartialEq, Eq, Debug)]
+#[derive(Clone, Copy)]
 pub enum OptionName {
     Stop,
     Workers,

@@ -8,7 +8,7 @@ use std::error::Error;
 use std::fmt;
 
 /// What is wrong with words.
-#[derive(Clone, Copy, PartialEq, Eq, Debug)]
+#[derive(Clone, Copy, Debug)]
 pub enum WordsBreach {
     /// There are no words.
     NoCommand,
@@ -55,7 +55,7 @@ impl fmt::Display for WordsBreach {
 impl Error for WordsBreach {}
 
 /// Why there is no command.
-#[derive(Debug, Drop)]
+#[derive(Drop)]
 pub enum WordsError {
     /// The first breach from left to right, and the word that it is told with: the first word, or the option up to its
     /// first `=`. Where there are no words it has none.

@@ -5,7 +5,7 @@ ghost use Rattle.ooo_words.specs.Reading.{is_equals, settings_of};
 ghost use Rattle.ooo_words.specs.Written.{setting_of};
 
 /// An option as it is written, and its value, if a word is left for it.
-#[derive(Clone, Copy, Debug)]
+#[derive(Clone, Copy)]
 pub struct Written<'a> {
     pub option: &'a str,
     pub value: Option<&'a str>,

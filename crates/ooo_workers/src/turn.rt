@@ -12,7 +12,7 @@ pub enum Turn {
 }
 
 /// Why a worker ended.
-#[derive(Clone, Copy, Debug, PartialEq, Eq)]
+#[derive(Clone, Copy)]
 pub enum Worked {
     /// The board is over.
     Over,

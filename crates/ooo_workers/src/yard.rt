@@ -40,7 +40,7 @@ pub struct Yard {
 }
 
 // Who is to be woken after a step.
-#[derive(Clone, Copy, PartialEq, Eq)]
+#[derive(Clone, Copy)]
 enum Call {
     Nobody,
     One,
@@ -48,7 +48,7 @@ enum Call {
 }
 
 // Which jobs a caller is given.
-#[derive(Clone, Copy, PartialEq, Eq)]
+#[derive(Clone, Copy)]
 enum Wish {
     // Any.
     Any,

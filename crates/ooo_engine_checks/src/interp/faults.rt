@@ -37,7 +37,7 @@ fn check(rt: &impl Abort, alloc: Global, kind: Made<NodeKind>, fault: Fault) -> 
 }
 
 /// What an expression faults with.
-#[derive(Clone, Copy, Debug)]
+#[derive(Clone, Copy)]
 enum Cause {
     TooGreat,
     ByZero,
@@ -81,7 +81,7 @@ impl Cause {
 }
 
 /// Where an expression stands in a node.
-#[derive(Clone, Copy, Debug)]
+#[derive(Clone, Copy)]
 enum Place {
     Local,
     Variable,
