@@ -11,6 +11,7 @@ use ooo_time::{Stamp, Time};
 use ooo_value::{BoundChannel, BoundEvent, ChannelKind, Kind, Value};
 use sqlite_items::Items;
 use std::alloc::{AllocError, Global};
+use std::process::Abort;
 use std::test::Fail;
 
 /// The stamp of a delta cycle of a time in nanoseconds.
@@ -587,12 +588,17 @@ fn fifo_wraps(rt: HostRuntime) -> Result<(), Fail> {
     }
     let history = trial.history(rt.alloc(), at(4_000, 0))?;
     assert_eq!(rt; history.len(), 100_000);
-    for (n, entry) in history.as_slice().iter().enumerate() {
+    tells_in_turns(&rt, history.as_slice());
+    Ok(())
+}
+
+/// Each entry of the history of that fifo tells what it should.
+fn tells_in_turns(rt: &impl Abort, history: &[Entry]) {
+    for (n, entry) in history.iter().enumerate() {
         let (what, number) = told(n);
         assert_eq!(rt; entry.what, what);
         assert_eq!(rt; entry.value, Value::Uint(number));
     }
-    Ok(())
 }
 
 /// What entry `n` of the history of that fifo tells: 16 puts, 16 takes, and so on, of ascending numbers.

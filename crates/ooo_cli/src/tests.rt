@@ -1,5 +1,6 @@
+use ooo_board::Board;
 use ooo_outside::{Gate, MeetGate, MemorySink, MemorySource, OpenGate};
-use ooo_sim::simulate;
+use ooo_sim::{Outcome, simulate};
 use std::alloc::{AllocError, Global};
 use std::sync::Wait;
 use std::test::Fail;
@@ -47,6 +48,43 @@ impl Called {
     }
 }
 
+// Words of a call.
+fn words_of(alloc: Global, words: &[&str]) -> Result<Vec<String>, AllocError> {
+    let mut given = Vec::new(alloc);
+    for word in words {
+        given.push(String::from_str(alloc, word)?)?;
+    }
+    Ok(given)
+}
+
+// The model in memory.
+fn source(alloc: Global, failing: u32) -> Result<MemorySource, AllocError> {
+    let text = Vec::from_slice(alloc, MODEL)?;
+    Ok(MemorySource::new(text, MOST, vec![in alloc; failing]?))
+}
+
+// An empty sink in memory.
+fn sink(alloc: Global, failing: u32) -> Result<MemorySink, AllocError> {
+    MemorySink::make(alloc, 4096, MOST, vec![in alloc; failing]?)
+}
+
+// What is kept of a call: the board goes.
+fn told(
+    alloc: Global,
+    outcome: Outcome,
+    board: Option<Board>,
+    sink: &MemorySink,
+) -> Result<Called, AllocError> {
+    let (status, has_board) = (outcome.number(), board.is_some());
+    drop(board);
+    drop(outcome);
+    Ok(Called {
+        status,
+        has_board,
+        held: Vec::from_slice(alloc, sink.held())?,
+    })
+}
+
 // Calls `simulate` by these words on the model in memory.
 fn call<G: Gate>(
     rt: &(impl Threads + Wait + Sync),
@@ -55,21 +93,11 @@ fn call<G: Gate>(
     failing: Failing,
     gate: &G,
 ) -> Result<Called, AllocError> {
-    let mut given = Vec::new(alloc);
-    for word in words {
-        given.push(String::from_str(alloc, word)?)?;
-    }
-    let text = Vec::from_slice(alloc, MODEL)?;
-    let mut source = MemorySource::new(text, MOST, vec![in alloc; failing.read]?);
-    let mut sink = MemorySink::make(alloc, 4096, MOST, vec![in alloc; failing.write]?)?;
+    let given = words_of(alloc, words)?;
+    let mut source = source(alloc, failing.read)?;
+    let mut sink = sink(alloc, failing.write)?;
     let (outcome, board) = simulate(rt, alloc, &given, &mut source, &mut sink, gate);
-    let has_board = board.is_some();
-    drop(board);
-    Ok(Called {
-        status: outcome.number(),
-        has_board,
-        held: Vec::from_slice(alloc, sink.held())?,
-    })
+    told(alloc, outcome, board, &sink)
 }
 
 #[test]

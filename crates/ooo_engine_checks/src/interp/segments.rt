@@ -5,11 +5,12 @@ ghost use Rattle.ooo_engine_checks.specs.SmallJob.{IsSmall, small_design};
 
 use super::{MANY, Made, is_over};
 use ooo_code::{Design, Frame, Node, NodeKind, Proc, SegmentEntry};
-use ooo_interp::{Job, run_segment};
+use ooo_interp::{Done, Job, run_segment};
 use ooo_time::{Stamp, Time};
 use ooo_value::{BoundVariable, Kind, ProcessKind, Value};
 use sqlite_items::Items;
 use std::alloc::Global;
+use std::process::Abort;
 use std::sync::Arc;
 use std::test::Fail;
 
@@ -84,20 +85,29 @@ fn job(alloc: Global, text: &[u8]) -> Made<Job>
     })
 }
 
-#[test]
-fn a_job_that_fits_is_done(rt: HostRuntime) -> Result<(), Fail> {
-    let alloc = rt.alloc();
-    let job = job(alloc, b"done")?;
-    let done = run_segment(alloc, job)?;
+// What a job of that design came to: the thread printed its text and is over.
+fn ends(rt: &impl Abort, done: &Done) {
     assert_eq!(rt; done.process, 0);
     assert_eq!(rt; done.activation, 7);
     assert_eq!(rt; done.emitted.output.as_slice(), b"done".as_slice());
     assert!(rt; is_over(&done.end));
     assert!(rt; done.emitted.effects.is_empty());
     assert_eq!(rt; done.frame.entry, SegmentEntry::Start);
-    assert_eq!(rt; done.owned.len(), 1);
-    let (number, cells) = &done.owned[0];
+}
+
+// What it was given to change comes back as it was, since the thread writes nothing.
+fn hands_back(rt: &impl Abort, owned: &[(u32, Items<Value>)]) {
+    assert_eq!(rt; owned.len(), 1);
+    let (number, cells) = &owned[0];
     assert_eq!(rt; *number, 0);
     assert_eq!(rt; cells.as_slice(), [Value::Uint(3)].as_slice());
+}
+
+#[test]
+fn a_job_that_fits_is_done(rt: HostRuntime) -> Result<(), Fail> {
+    let job = job(rt.alloc(), b"done")?;
+    let done = run_segment(rt.alloc(), job)?;
+    ends(&rt, &done);
+    hands_back(&rt, &done.owned);
     Ok(())
 }
