@@ -93,7 +93,7 @@ fn shared(alloc: Global, design: Design) -> Result<Arc<Design>, AllocError>
     Ok(Arc::new(alloc, design)?)
 }
 
-// The same with its tables.
+// The board of a design with its tables, on which nothing was done.
 fn board_with(
     alloc: Global,
     design: Result<Arc<Design>, AllocError>,
