@@ -57,19 +57,15 @@ fn explain_fault(
     process: &str,
     number: &str,
 ) -> Result<Option<String>, AllocError> {
-    let When {
-        amount,
-        unit,
-        delta,
-    } = when;
-    let reason = fault_reason(name);
-    let what = format!(in alloc;
-        "{name} in process {process} at {amount} {unit}, delta cycle {delta}: {reason}"
-    )?;
+    let at = begin_of_line(source, number);
     let mut message = Message::new(alloc, source);
-    message.error(begin_of_line(source, number), &what)?;
-    message.hint(fault_hint(name))?;
-    Ok(Some(message.into_text()))
+    message.begin_error(at);
+    message.all_words(&[name, " in process ", process, " at "]);
+    add_when(&mut message, when);
+    message.all_words(&[": ", fault_reason(name)]);
+    message.end_shown(at);
+    message.hint(fault_hint(name));
+    message.into_text().map(Some)
 }
 
 // More statements of a process without a wait than are allowed, the last one at the line of this number.
@@ -80,21 +76,17 @@ fn explain_statements(
     process: &str,
     number: &str,
 ) -> Result<Option<String>, AllocError> {
-    let When {
-        amount,
-        unit,
-        delta,
-    } = when;
-    let what = format!(in alloc;
-        "process {process} has run as many statements without a wait as are allowed, \
-        at {amount} {unit}, delta cycle {delta}"
-    )?;
+    let at = begin_of_line(source, number);
     let mut message = Message::new(alloc, source);
-    message.error(begin_of_line(source, number), &what)?;
+    message.begin_error(at);
+    message.all_words(&["process ", process]);
+    message.words(" has run as many statements without a wait as are allowed, at ");
+    add_when(&mut message, when);
+    message.end_shown(at);
     message.hint(
         "an endless loop of a thread has a 'wait' in it; '--statements N' allows more than 1000000",
-    )?;
-    Ok(Some(message.into_text()))
+    );
+    message.into_text().map(Some)
 }
 
 // More delta cycles at one time than are allowed.
@@ -103,21 +95,24 @@ fn explain_deltas(
     source: &[u8],
     when: When<'_>,
 ) -> Result<Option<String>, AllocError> {
-    let When {
-        amount,
-        unit,
-        delta,
-    } = when;
-    let what = format!(in alloc;
-        "at {amount} {unit} there are as many delta cycles as are allowed, {delta}"
-    )?;
     let mut message = Message::new(alloc, source);
-    message.error_anywhere(&what)?;
+    message.begin_error_anywhere();
+    message.all_words(&["at ", when.amount, " ", when.unit]);
+    message.all_words(&[
+        " there are as many delta cycles as are allowed, ",
+        when.delta,
+    ]);
+    message.end();
     message.hint(
         "processes may wake each other without end while no time goes by: let one of them wait for a time; \
         '--deltas N' allows more than 10000",
-    )?;
-    Ok(Some(message.into_text()))
+    );
+    message.into_text().map(Some)
+}
+
+// Says when something was.
+fn add_when(message: &mut Message<'_>, when: When<'_>) {
+    message.all_words(&[when.amount, " ", when.unit, ", delta cycle ", when.delta]);
 }
 
 // The place where the line of this number begins, behind blanks.

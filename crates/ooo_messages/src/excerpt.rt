@@ -1,6 +1,6 @@
 ghost use Rattle.std.specs.Prelude.{◌≤◌, length};
 
-use std::alloc::{AllocError, Global};
+use crate::sheet::Sheet;
 
 /// The most bytes of a line that are shown.
 const WINDOW: usize = 80;
@@ -10,9 +10,6 @@ const MOST_BEFORE: usize = 60;
 
 /// How many bytes are shown before the mark where the line's first byte isn't shown.
 const BEFORE: usize = 40;
-
-/// The most bytes of a token that are named in a sentence.
-const MOST_NAMED: usize = 60;
 
 /// What stands for bytes of a line that aren't shown.
 const CUT: &str = "...";
@@ -35,37 +32,32 @@ pub fn line_of(source: &[u8], number: u32) -> Option<&[u8]> {
 
 /// Adds a line of a source, and below it a mark under the byte of this column, from 1. Of a long line the part around
 /// the mark is shown.
-pub fn push_excerpt(
-    alloc: Global,
-    text: &mut String,
-    line: &[u8],
-    column: u32,
-) -> Result<(), AllocError> {
+pub fn put_excerpt(sheet: &mut Sheet, line: &[u8], column: u32) {
     let window = window_of(line, (column as usize).saturating_sub(1));
-    push_shown(alloc, text, window)?;
-    push_mark(alloc, text, window)
+    put_shown(sheet, window);
+    put_mark(sheet, window);
 }
 
 // Adds what is shown of a line.
-fn push_shown(alloc: Global, text: &mut String, window: Window<'_>) -> Result<(), AllocError> {
+fn put_shown(sheet: &mut Sheet, window: Window<'_>) {
     if window.is_cut_before {
-        text.push_str(CUT)?;
+        sheet.put(CUT);
     }
-    text.push_str(&shown(alloc, window.before)?)?;
-    text.push_str(&shown(alloc, window.from)?)?;
+    sheet.shown(window.before);
+    sheet.shown(window.from);
     if window.is_cut_behind {
-        text.push_str(CUT)?;
+        sheet.put(CUT);
     }
-    text.push('\n')
+    sheet.put("\n");
 }
 
 // Adds the mark under the marked byte.
-fn push_mark(alloc: Global, text: &mut String, window: Window<'_>) -> Result<(), AllocError> {
+fn put_mark(sheet: &mut Sheet, window: Window<'_>) {
     if window.is_cut_before {
-        text.push_str("   ")?;
+        sheet.put("   ");
     }
-    text.push_str(&blanks(alloc, window.before)?)?;
-    text.push_str("^\n")
+    sheet.blanks(window.before);
+    sheet.put("^\n");
 }
 
 // The part of a line around the byte that has this many before it.
@@ -90,30 +82,4 @@ fn last_of(before: &[u8]) -> &[u8]
     } else {
         before
     }
-}
-
-// Bytes as they are shown: a tab and what ASCII prints as they are, and a `?` for each other byte.
-fn shown(alloc: Global, bytes: &[u8]) -> Result<String, AllocError> {
-    bytes.iter().map(|byte| shown_as(*byte)).collect(alloc)
-}
-
-/// A token's bytes as they are named in a sentence: of a long one the first ones.
-pub fn named(alloc: Global, token: &[u8]) -> Result<String, AllocError> {
-    shown(alloc, token.get(..MOST_NAMED).unwrap_or(token))
-}
-
-fn shown_as(byte: u8) -> char {
-    match byte {
-        b'\t' | b' '..=b'~' => char::from(byte),
-        _ => '?',
-    }
-}
-
-// As many blanks as there are bytes, with the tabs among them kept.
-fn blanks(alloc: Global, bytes: &[u8]) -> Result<String, AllocError> {
-    bytes.iter().map(|byte| blank_for(*byte)).collect(alloc)
-}
-
-fn blank_for(byte: u8) -> char {
-    if byte == b'\t' { '\t' } else { ' ' }
 }

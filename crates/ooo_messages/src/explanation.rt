@@ -1,4 +1,3 @@
-use crate::excerpt::named;
 use crate::hints::add_hints;
 use crate::message::Message;
 use crate::reasons::stop_reason;
@@ -17,48 +16,49 @@ pub fn explain(
 ) -> Result<String, AllocError> {
     let site = Site::find(alloc, source, refusal.at)?;
     let mut message = Message::new(alloc, source);
-    message.error(refusal.at, &error_text(alloc, refusal, &site)?)?;
-    add_hints(alloc, &mut message, refusal, &site)?;
-    Ok(message.into_text())
+    message.begin_error(refusal.at);
+    add_error(&mut message, refusal, &site);
+    message.end_shown(refusal.at);
+    add_hints(&mut message, refusal, &site);
+    message.into_text()
 }
 
-// What is wrong, with the token or the names that it is about.
-fn error_text(
-    alloc: Global,
-    refusal: &TextRefusal<'_>,
-    site: &Site<'_>,
-) -> Result<String, AllocError> {
+// Says what is wrong, with the token or the names that it is about.
+fn add_error(message: &mut Message<'_>, refusal: &TextRefusal<'_>, site: &Site<'_>) {
     let reason = refusal.breach.reason();
     let found = match site.here() {
-        Some(token) => named(alloc, site.text(token))?,
-        None => String::new(alloc),
+        Some(token) => site.text(token),
+        None => b"",
     };
     match refusal.breach {
-        Breach::Lexer(_) => String::from_str(alloc, reason),
-        Breach::Parser(ParseBreach::Syntax) if site.here().is_none() => String::from_str(
-            alloc,
+        Breach::Lexer(_) => message.words(reason),
+        Breach::Parser(ParseBreach::Syntax) if site.here().is_none() => message.words(
             "the text ends too early",
         ),
-        Breach::Parser(_) => format!(in alloc; "found '{found}': {reason}"),
-        Breach::Types(_) => format!(in alloc; "'{found}': {reason}"),
-        Breach::Elaborate(_) => about(alloc, refusal.names, reason),
+        Breach::Parser(_) => add_found(message, "found '", found, reason),
+        Breach::Types(_) => add_found(message, "'", found, reason),
+        Breach::Elaborate(_) => add_names(message, refusal.names, reason),
     }
 }
 
-// What is wrong with the first of these names, and behind it the others.
-fn about(alloc: Global, names: &[Name], reason: &str) -> Result<String, AllocError> {
+// Says what is wrong with a token.
+fn add_found(message: &mut Message<'_>, before: &str, found: &[u8], reason: &str) {
+    message.words(before);
+    message.token(found);
+    message.all_words(&["': ", reason]);
+}
+
+// Says what is wrong with the first of these names, and behind it the others.
+fn add_names(message: &mut Message<'_>, names: &[Name], reason: &str) {
     let Some((name, others)) = names.split_first() else {
-        return String::from_str(alloc, reason);
+        return message.words(reason);
     };
-    let name = text_of(name);
-    let mut text = format!(in alloc; "{name}: {reason}")?;
+    message.all_words(&[text_of(name), ": ", reason]);
     let mut mark = ": ";
     for other in others {
-        text.push_str(mark)?;
-        text.push_str(text_of(other))?;
+        message.all_words(&[mark, text_of(other)]);
         mark = " ";
     }
-    Ok(text)
 }
 
 // A name as it is told: a text names nothing but by ASCII.
@@ -72,7 +72,9 @@ pub fn explain_stop(alloc: Global, source: &[u8]) -> Result<Option<String>, Allo
         return Ok(None);
     };
     let mut message = Message::new(alloc, source);
-    message.error(at, stop_reason())?;
-    message.hint("write 'sc_start(100, SC_NS);', or call with '--stop 100ns'")?;
-    Ok(Some(message.into_text()))
+    message.begin_error(at);
+    message.words(stop_reason());
+    message.end_shown(at);
+    message.hint("write 'sc_start(100, SC_NS);', or call with '--stop 100ns'");
+    message.into_text().map(Some)
 }

@@ -1,5 +1,4 @@
 use crate::declared::declared_in;
-use crate::excerpt::named;
 use crate::lexer_hints::lexer_hint;
 use crate::message::Message;
 use crate::refusal::{Breach, TextRefusal};
@@ -11,49 +10,37 @@ use ooo_checked::TypeBreach;
 use ooo_lexer::{Position, Token, TokenKind};
 use ooo_syntax::ParseBreach;
 use ooo_walk::ElabBreach;
-use std::alloc::{AllocError, Global};
 
 /// Adds what helps to go on, for a text that is refused.
-pub fn add_hints(
-    alloc: Global,
-    message: &mut Message<'_>,
-    refusal: &TextRefusal<'_>,
-    site: &Site<'_>,
-) -> Result<(), AllocError> {
+pub fn add_hints(message: &mut Message<'_>, refusal: &TextRefusal<'_>, site: &Site<'_>) {
     match refusal.breach {
         Breach::Lexer(breach) => add_some(message, lexer_hint(breach, site.source(), refusal.at)),
-        Breach::Parser(breach) => add_parser_hints(alloc, message, breach, site),
+        Breach::Parser(breach) => add_parser_hints(message, breach, site),
         Breach::Types(breach) => {
-            add_declaration(alloc, message, site, declared_word(breach, site))?;
+            add_declaration(message, site, declared_word(breach, site));
             if breach == TypeBreach::UnknownName {
-                add_meant(alloc, message, site)?;
+                add_meant(message, site);
             }
             add_some(message, type_hint(breach, site))
         }
         Breach::Elaborate(breach) => {
             if breach == ElabBreach::PortKind {
-                add_binding(alloc, message, site)?;
+                add_binding(message, site);
             }
             add_some(message, hint_of(elaborate_shapes(breach), site))
         }
     }
 }
 
-fn add_some(message: &mut Message<'_>, hint: Option<&str>) -> Result<(), AllocError> {
-    match hint {
-        Some(hint) => message.hint(hint),
-        None => Ok(()),
+fn add_some(message: &mut Message<'_>, hint: Option<&str>) {
+    if let Some(hint) = hint {
+        message.hint(hint);
     }
 }
 
 // What is known of a token that the grammar refuses: the word before it that is misspelled, or the way around where it
 // meets a shape; else the end that is missing, or what may stand there.
-fn add_parser_hints(
-    alloc: Global,
-    message: &mut Message<'_>,
-    breach: ParseBreach,
-    site: &Site<'_>,
-) -> Result<(), AllocError> {
+fn add_parser_hints(message: &mut Message<'_>, breach: ParseBreach, site: &Site<'_>) {
     if let Some(hint) = hint_anywhere(site) {
         return message.hint(hint);
     }
@@ -61,28 +48,22 @@ fn add_parser_hints(
         return message.hint("give a part of it to a local, or to a function");
     }
     match misspelled(site) {
-        Some((token, meant)) => {
-            add_spelling(alloc, message, place_of(token), site.text(token), meant)
-        }
+        Some((token, meant)) => { add_spelling(message, place_of(token), site.text(token), meant) }
         None => add_expected(message, site),
     }
 }
 
 // Says which word of the language may be meant by one that is none.
-fn add_spelling(
-    alloc: Global,
-    message: &mut Message<'_>,
-    at: Position,
-    word: &[u8],
-    meant: &str,
-) -> Result<(), AllocError> {
-    let word = named(alloc, word)?;
-    let what = format!(in alloc; "'{word}' is no word of the language: is '{meant}' meant?")?;
-    message.note_at(at, &what)
+fn add_spelling(message: &mut Message<'_>, at: Position, word: &[u8], meant: &str) {
+    message.begin_note(at);
+    message.words("'");
+    message.token(word);
+    message.all_words(&["' is no word of the language: is '", meant, "' meant?"]);
+    message.end_shown(at);
 }
 
 // The way around where a token meets a shape of its place; else the end that is missing, or what may stand there.
-fn add_expected(message: &mut Message<'_>, site: &Site<'_>) -> Result<(), AllocError> {
+fn add_expected(message: &mut Message<'_>, site: &Site<'_>) {
     let place = site.place();
     if let Some(hint) = parser_hint(place, site) {
         return message.hint(hint);
@@ -173,64 +154,61 @@ fn declared_word<'s>(breach: TypeBreach, site: &'s Site<'_>) -> Option<&'s Token
 }
 
 // Shows how a word is declared.
-fn add_declaration(
-    alloc: Global,
-    message: &mut Message<'_>,
-    site: &Site<'_>,
-    word: Option<&Token>,
-) -> Result<(), AllocError> {
+fn add_declaration(message: &mut Message<'_>, site: &Site<'_>, word: Option<&Token>) {
     let Some(word) = word else {
-        return Ok(());
+        return;
     };
-    let Some(declared) = site.declared(site.text(word)) else {
-        return Ok(());
-    };
-    if declared.name.start == word.start {
-        return Ok(());
+    let name = site.text(word);
+    if let Some(declared) = site.declared(name)
+        && declared.name.start != word.start
+    {
+        let at = place_of(declared.name);
+        message.begin_note(at);
+        message.words("'");
+        message.token(name);
+        message.words("' is declared here");
+        message.end_shown(at);
     }
-    let name = named(alloc, site.text(word))?;
-    let what = format!(in alloc; "'{name}' is declared here")?;
-    message.note_at(place_of(declared.name), &what)
 }
 
 // Says which word may be meant by one that is unknown.
-fn add_meant(alloc: Global, message: &mut Message<'_>, site: &Site<'_>) -> Result<(), AllocError> {
-    let Some(here) = site.here() else {
-        return Ok(());
-    };
-    let word = site.text(here);
+fn add_meant(message: &mut Message<'_>, site: &Site<'_>) {
+    if let Some(here) = site.here()
+        && let Some(meant) = meant_by(site, site.text(here))
+    {
+        message.begin_hint();
+        message.words("is '");
+        message.token(meant);
+        message.words("' meant?");
+        message.end();
+    }
+}
+
+// The word around a place, or else of the language, that may be meant by one that is unknown.
+fn meant_by<'s>(site: &Site<'s>, word: &[u8]) -> Option<&'s [u8]> {
     let near = site
         .around()
         .iter()
         .filter(|token| token.kind == TokenKind::Word)
         .map(|token| site.text(token))
         .find(|other| is_near(word, other));
-    let meant = match near {
-        Some(near) => named(alloc, near)?,
-        None => match known_near(word) {
-            Some(known) => String::from_str(alloc, known)?,
-            None => return Ok(()),
-        },
-    };
-    let what = format!(in alloc; "is '{meant}' meant?")?;
-    message.hint(&what)
+    match near {
+        Some(near) => Some(near),
+        None => known_near(word).map(|known| known.as_bytes()),
+    }
 }
 
 // Shows how the port and the channel of a binding `instance . port ( channel )` are declared.
-fn add_binding(
-    alloc: Global,
-    message: &mut Message<'_>,
-    site: &Site<'_>,
-) -> Result<(), AllocError> {
+fn add_binding(message: &mut Message<'_>, site: &Site<'_>) {
     let Some([instance, _, port, rest @ ..]) = site.from(0) else {
-        return Ok(());
+        return;
     };
     let channel = rest.iter().find(|token| token.kind == TokenKind::Word
         && site.text(token) != b"bind".as_slice());
     if let Some(tokens) = site.module_of(site.text(instance))
         && let Some(declared) = declared_in(site, tokens, site.text(port), u32::MAX)
     {
-        message.note_at(place_of(declared.name), "the port is declared here")?;
+        message.note_at(place_of(declared.name), "the port is declared here");
     }
-    add_declaration(alloc, message, site, channel)
+    add_declaration(message, site, channel);
 }

@@ -15,6 +15,7 @@ mod reasons;
 mod refusal;
 mod shape;
 mod shapes;
+mod sheet;
 mod site;
 mod spelling;
 

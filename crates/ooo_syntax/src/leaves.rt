@@ -9,7 +9,7 @@ pub struct Word {
 }
 
 /// A number.
-#[derive(Clone, Copy, PartialEq, Eq)]
+#[derive(Clone, Copy)]
 pub struct Number {
     pub value: Value,
     pub position: Position,
