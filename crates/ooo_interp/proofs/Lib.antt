@@ -1,6 +1,7 @@
 pub mod Acted
 pub mod Written
 pub mod Bitwise
+pub mod OneKind
 pub mod SignedBits
 pub mod Turned
 pub mod Drops

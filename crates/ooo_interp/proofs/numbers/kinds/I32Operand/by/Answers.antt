@@ -1,9 +1,26 @@
--- Bits of two signed values, by their residues.
-use Rattle.std.proofs.Common.{bit_and, bit_or, bit_xor}
+-- An exact result by that of its class, and bits of two signed values by their residues.
+use Rattle.std.proofs.Common.{bit_and, bit_or, bit_xor, ◌∙◌, ◌+ℤ◌, ◌-ℤ◌, ◌*ℤ◌}
 use Rattle.std.specs.Int.{w32}
+use Rattle.ooo_value.specs.declared.values.Value.TheVariants as value
 use Rattle.ooo_interp.proofs.SignedBits.{signed_and, signed_or, signed_xor}
 use Rattle.ooo_interp.proofs.Bitwise.{ints}
+use Rattle.ooo_interp.proofs.OneKind.{given_number, sum_of_ints}
 use Rattle.ooo_interp.proofs.numbers.kinds.I32Operand.by.Goals as goal
+
+pub returns-in-Add : goal.returns-in-Add
+returns-in-Add c =
+    let exact = c.int_or_overflow.ensures _ c.checked_add.ensures ∙ sum_of_ints (λ x y. x +ℤ y) c.args.x c.args.y c.ranges.x c.ranges.y in
+    rw c.in-Add.is (given_number value.Int _ exact c.number_of_answer.ensures)
+
+pub returns-in-Subtract : goal.returns-in-Subtract
+returns-in-Subtract c =
+    let exact = c.int_or_overflow-in-Subtract.ensures _ c.checked_sub.ensures ∙ sum_of_ints (λ x y. x -ℤ y) c.args.x c.args.y c.ranges.x c.ranges.y in
+    rw c.in-Subtract.is (given_number value.Int _ exact c.number_of_answer-in-Subtract.ensures)
+
+pub returns-in-Multiply : goal.returns-in-Multiply
+returns-in-Multiply c =
+    let exact = c.int_or_overflow-in-Multiply.ensures _ c.checked_mul.ensures ∙ sum_of_ints (λ x y. x *ℤ y) c.args.x c.args.y c.ranges.x c.ranges.y in
+    rw c.in-Multiply.is (given_number value.Int _ exact c.number_of_answer-in-Multiply.ensures)
 
 pub returns-in-BitAnd : goal.returns-in-BitAnd
 returns-in-BitAnd c = rw c.in-BitAnd.is (ints bit_and c.args.x c.args.y _ c.ranges.x c.ranges.y (signed_and w32 c.args.x c.args.y c.ranges.x c.ranges.y))
