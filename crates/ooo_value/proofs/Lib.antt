@@ -1,5 +1,6 @@
 pub mod Causes
 pub mod Conversions
+pub mod Divided
 pub mod Exact
 pub mod Operands
 pub mod QuotientLaw

@@ -1,0 +1,25 @@
+-- A signed rest, at the pair that it is of.
+use Rattle.std.proofs.Common.{rules, FitsSigned}
+use Rattle.std.specs.Prelude.{int_rem}
+use Rattle.std.specs.Int.{w32, w64}
+use Rattle.std.proofs.lemmas.Int.{to_z-of_z}
+use Rattle.ooo_value.proofs.Divided.{divided_ints, divided_longs}
+use Rattle.ooo_value.proofs.division.remainder.Goals as goal
+
+pub returns-in-Some : goal.returns-in-Some
+returns-in-Some c =
+    let left : FitsSigned w32 c.in-Int.a = search rules in
+    let right : FitsSigned w32 c.in-Int.b = search rules in
+    let held : FitsSigned w32 c.in-Some.rest = search rules in
+    let made = simp (to_z-of_z w32 c.in-Int.a left, to_z-of_z w32 c.in-Int.b right) at c.in-Some.ensures in
+    let divisor = rw c.in-Int.is at c.if-is_right_zero.ensures in
+    rw c.in-Int.is (divided_ints int_rem c.in-Int.a c.in-Int.b c.in-Some.rest divisor made.0.1 held made.1)
+
+pub returns-in-Some-checked_rem : goal.returns-in-Some-checked_rem
+returns-in-Some-checked_rem c =
+    let left : FitsSigned w64 c.in-Long.a = search rules in
+    let right : FitsSigned w64 c.in-Long.b = search rules in
+    let held : FitsSigned w64 c.in-Some-checked_rem.rest = search rules in
+    let made = simp (to_z-of_z w64 c.in-Long.a left, to_z-of_z w64 c.in-Long.b right) at c.in-Some-checked_rem.ensures in
+    let divisor = rw c.in-Long.is at c.if-is_right_zero.ensures in
+    rw c.in-Long.is (divided_longs int_rem c.in-Long.a c.in-Long.b c.in-Some-checked_rem.rest divisor made.0.1 held made.1)
