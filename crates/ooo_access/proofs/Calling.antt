@@ -1,5 +1,5 @@
 -- Notifications: those told as such, and those of channels' events.
-use Rattle.std.proofs.Common.{◌≡◌, ℕ, zero, suc, ◌+◌, ◌-◌, ◌<◌, List, [], ◌∷◌, ◌++◌, length, take, get_or, ap, sym, ◌∙◌, subst, arith, inl, inr, ◌⊎◌, ◌↔◌, Option, Some, None, Bool}
+use Rattle.std.proofs.Common.{◌≡◌, ℕ, zero, suc, ◌+◌, ◌<◌, List, [], ◌∷◌, ◌++◌, length, take, get_or, ap, sym, ◌∙◌, subst, arith, inl, inr, ◌⊎◌, ◌↔◌, Option, Some, None, Bool}
 use Rattle.std.specs.Prelude.{Contains, slice_get}
 use Rattle.std.proofs.lemmas.List.{take_more}
 use Rattle.std.proofs.lemmas.List.Elements.{Contains-push, Contains-push_cases, Contains-append_left}
@@ -7,12 +7,9 @@ use Rattle.ooo_lemmas.proofs.Placed.{at_push, at_end}
 use Rattle.ooo_lemmas.proofs.Contained.{not_in_none}
 use Rattle.ooo_time.specs.declared.time.Time.{Time}
 use Rattle.ooo_value.specs.declared.bound.BoundEvent.{BoundEvent}
-use Rattle.ooo_value.specs.declared.bound.BoundEvent.TheVariants as event
-use Rattle.ooo_code.specs.Touches as touch
 use Rattle.ooo_access.specs.declared.told.Told.{Told}
 use Rattle.ooo_access.specs.declared.told.Told.TheVariants as tells
-use Rattle.ooo_access.specs.declared.told.Part.TheVariants as part
-use Rattle.ooo_access.specs.Calls.{IsCalled}
+use Rattle.ooo_access.specs.Calls.{IsCalled, IsCalledAt}
 use Rattle.ooo_access.specs.Notices.{Notice, AreInOrder}
 
 -- the notifications told as such, in order
@@ -55,22 +52,16 @@ direct_other told u notices h out = record {
   in_order = h.in_order;
 }
 
--- the event of this number is notified for the next delta cycle, as one of a channel
-pub record CalledAt (changed taken given : List Bool) (events : List BoundEvent) (e : ℕ) : Type 0 where
-  pub event : BoundEvent
-  pub is : slice_get events e ≡ Some event
-  pub called : IsCalled changed taken given event
-
--- the notifications told as such, and those of these events of channels, in order
-pub record HasCalled (changed taken given : List Bool) (events : List BoundEvent) (told : List Told) (notices : List Notice) : Type 0 where
-  pub has : (e : ℕ) (t : Option Time) → Contains notices (e, t) ↔ (Contains told (tells.Notifies e t) ⊎ ((t ≡ None) × CalledAt changed taken given events e))
+-- the notifications that were there, and those of these events of channels, in order
+pub record HasCalled (changed taken given : List Bool) (events : List BoundEvent) (before notices : List Notice) : Type 0 where
+  pub has : (e : ℕ) (t : Option Time) → Contains notices (e, t) ↔ (Contains before (e, t) ⊎ ((t ≡ None) × IsCalledAt changed taken given events e))
   pub in_order : AreInOrder notices
 
 -- none of an event so far
-pub called_none : (changed taken given : List Bool) (told : List Told) (notices : List Notice) → HasDirect told notices → HasCalled changed taken given [] told notices
-called_none changed taken given told notices h = record {
-  has = λ e t. (λ w. inl ((h.has e t).0 w), λ w. elim w [ inl a ↦ (h.has e t).1 a | inr b ↦ absurd (let i = b.1.is in cc) ]);
-  in_order = h.in_order;
+pub called_none : (changed taken given : List Bool) (before : List Notice) → AreInOrder before → HasCalled changed taken given [] before before
+called_none changed taken given before up = record {
+  has = λ e t. (λ w. inl w, λ w. elim w [ inl a ↦ a | inr b ↦ absurd (let i = b.1.is in cc) ]);
+  in_order = up;
 }
 
 at_earlier : {A : Type 0} (xs : List A) (x y : A) (k : ℕ) → slice_get xs k ≡ Some y → slice_get (xs ++ x ∷ []) k ≡ Some y
@@ -79,8 +70,8 @@ at_earlier (z ∷ zs) x y zero h = h
 at_earlier (z ∷ zs) x y (suc k) h = at_earlier zs x y k h
 
 -- an event more, which is notified
-pub called_more : (changed taken given : List Bool) (events : List BoundEvent) (told : List Told) (notices notices' : List Notice) (e : ℕ) (event : BoundEvent) → HasCalled changed taken given events told notices → e ≡ length events → IsCalled changed taken given event → ((m : Notice) → Contains notices' m ↔ (Contains notices m ⊎ (m ≡ (e, None)))) → AreInOrder notices' → HasCalled changed taken given (events ++ event ∷ []) told notices'
-called_more changed taken given events told notices notices' e event h len is g up = record {
+pub called_more : (changed taken given : List Bool) (events : List BoundEvent) (before notices notices' : List Notice) (e : ℕ) (event : BoundEvent) → HasCalled changed taken given events before notices → e ≡ length events → IsCalled changed taken given event → ((m : Notice) → Contains notices' m ↔ (Contains notices m ⊎ (m ≡ (e, None)))) → AreInOrder notices' → HasCalled changed taken given (events ++ event ∷ []) before notices'
+called_more changed taken given events before notices notices' e event h len is g up = record {
   has = λ f t. (
     λ w. elim ((g (f, t)).0 w) [
       | inl a ↦ elim ((h.has f t).0 a) [ inl b ↦ inl b | inr b ↦ inr (b.0, record { event = b.1.event; is = at_earlier events event b.1.event f b.1.is; called = b.1.called }) ]
@@ -100,8 +91,8 @@ called_more changed taken given events told notices notices' e event h len is g 
 }
 
 -- an event more, which isn't
-pub called_other : (changed taken given : List Bool) (events : List BoundEvent) (told : List Told) (notices : List Notice) (event : BoundEvent) → HasCalled changed taken given events told notices → (IsCalled changed taken given event → ⊥) → HasCalled changed taken given (events ++ event ∷ []) told notices
-called_other changed taken given events told notices event h out = record {
+pub called_other : (changed taken given : List Bool) (events : List BoundEvent) (before notices : List Notice) (event : BoundEvent) → HasCalled changed taken given events before notices → (IsCalled changed taken given event → ⊥) → HasCalled changed taken given (events ++ event ∷ []) before notices
+called_other changed taken given events before notices event h out = record {
   has = λ f t. (
     λ w. elim ((h.has f t).0 w) [ inl b ↦ inl b | inr b ↦ inr (b.0, record { event = b.1.event; is = at_earlier events event b.1.event f b.1.is; called = b.1.called }) ],
     λ w. elim w [
@@ -116,6 +107,6 @@ called_other changed taken given events told notices event h out = record {
 }
 
 -- the events so far, and one more
-pub called_step : (changed taken given : List Bool) (events : List BoundEvent) (told : List Told) (notices : List Notice) (i : ℕ) (d : BoundEvent) → i < length events → HasCalled changed taken given (take i events ++ get_or events i d ∷ []) told notices → HasCalled changed taken given (take (i + 1) events) told notices
-called_step changed taken given events told notices i d lt h =
-    subst (λ xs. HasCalled changed taken given xs told notices) (sym (take_more events i d lt)) h
+pub called_step : (changed taken given : List Bool) (events : List BoundEvent) (before notices : List Notice) (i : ℕ) (d : BoundEvent) → i < length events → HasCalled changed taken given (take i events ++ get_or events i d ∷ []) before notices → HasCalled changed taken given (take (i + 1) events) before notices
+called_step changed taken given events before notices i d lt h =
+    subst (λ xs. HasCalled changed taken given xs before notices) (sym (take_more events i d lt)) h

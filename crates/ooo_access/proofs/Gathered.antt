@@ -4,6 +4,7 @@ use Rattle.std.specs.Prelude.{Contains, slice_get, IsSomeAnd}
 use Rattle.std.proofs.lemmas.List.Elements.{Contains-append_left, Contains-append_right, Contains-append_cases}
 use Rattle.ooo_lemmas.proofs.Contained.{not_in_none, in_first, in_later, first_or_later}
 use Rattle.ooo_time.specs.declared.time.Time.{Time}
+use Rattle.ooo_value.specs.declared.bound.BoundEvent.{BoundEvent}
 use Rattle.ooo_value.specs.declared.bound.ProcessKind.{ProcessKind}
 use Rattle.ooo_value.specs.declared.bound.ProcessKind.TheVariants.{Thread, Method}
 use Rattle.ooo_code.specs.declared.design.Design.{Design}
@@ -25,25 +26,40 @@ both_ways : {A B C : Type 0} → A ↔ B → B ↔ C → A ↔ C
 both_ways p q = (λ a. q.0 (p.0 a), λ c. p.1 (q.1 c))
 
 -- the lists of an access by what was told
-pub gathered : (design : Design) (nodes : List ℕ) (told : List Told) (W : ℕ → Type 0) (a : Access) → all_meant design.events told ≡ touched_of design nodes →
+pub gathered : (events : List BoundEvent) (told : List Told) (W : ℕ → Type 0) (a : Access) →
     AreThose (λ n. IsTold part.Read n told) a.read → AreThose (λ n. IsTold part.Written n told) a.written →
     AreThose (λ n. IsTold part.SignalsRead n told) a.signals_read → AreThose (λ n. IsTold part.SignalsWritten n told) a.signals_written →
     AreThose (λ n. IsTold part.Takes n told) a.takes → AreThose (λ n. IsTold part.Puts n told) a.puts →
     AreThose (λ n. IsTold part.Cancelled n told) a.cancelled →
-    ((e : ℕ) (t : Option Time) → Contains a.notified (e, t) ↔ Contains (all_meant design.events told) (Notifies e t)) →
-    AreThose W a.waited → Lists (Contains (touched_of design nodes)) W a
-gathered design nodes told W a same r w sr sw ta pu ca nt wa =
-    subst (λ xs. Lists (Contains xs) W a) same (record {
-      read = λ x. both_ways (r x) (read_part design.events told x);
-      written = λ x. both_ways (w x) (written_part design.events told x);
-      signals_read = λ x. both_ways (sr x) (signal_read_part design.events told x);
-      signals_written = λ x. both_ways (sw x) (signal_written_part design.events told x);
-      takes = λ x. both_ways (ta x) (taken_part design.events told x);
-      puts = λ x. both_ways (pu x) (put_part design.events told x);
-      cancelled = λ x. both_ways (ca x) (cancelled_part design.events told x);
-      notified = nt;
-      waited = wa;
-    })
+    ((e : ℕ) (t : Option Time) → Contains a.notified (e, t) ↔ Contains (all_meant events told) (Notifies e t)) →
+    AreThose W a.waited → Lists (Contains (all_meant events told)) W a
+gathered events told W a r w sr sw ta pu ca nt wa = record {
+  read = λ x. both_ways (r x) (read_part events told x);
+  written = λ x. both_ways (w x) (written_part events told x);
+  signals_read = λ x. both_ways (sr x) (signal_read_part events told x);
+  signals_written = λ x. both_ways (sw x) (signal_written_part events told x);
+  takes = λ x. both_ways (ta x) (taken_part events told x);
+  puts = λ x. both_ways (pu x) (put_part events told x);
+  cancelled = λ x. both_ways (ca x) (cancelled_part events told x);
+  notified = nt;
+  waited = wa;
+}
+
+-- the same lists, of what is touched and waited on in other words
+pub same_lists : (xs ys : List Touch) (V W : ℕ → Type 0) (a : Access) → xs ≡ ys → ((e : ℕ) → V e ↔ W e) → Lists (Contains xs) V a → Lists (Contains ys) W a
+same_lists xs ys V W a same waits lists =
+    let h = subst (λ zs. Lists (Contains zs) V a) same lists in
+    record {
+      read = h.read;
+      written = h.written;
+      signals_read = h.signals_read;
+      signals_written = h.signals_written;
+      takes = h.takes;
+      puts = h.puts;
+      cancelled = h.cancelled;
+      notified = h.notified;
+      waited = λ e. both_ways (h.waited e) (waits e);
+    }
 
 -- ---- the definition's access
 

@@ -12,10 +12,10 @@ use Rattle.ooo_segments.specs.Numbers.{IsIn}
 use Rattle.ooo_access.specs.declared.told.Told.{Told}
 use Rattle.ooo_access.specs.declared.told.Told.TheVariants as tells
 use Rattle.ooo_access.specs.declared.told.Part.TheVariants as part
-use Rattle.ooo_access.specs.Calls.{IsCalled}
+use Rattle.ooo_access.specs.Calls.{IsCalled, IsCalledAt}
 use Rattle.ooo_access.specs.Notices.{Notice}
 use Rattle.ooo_access.specs.Told.{meant, all_meant, number_of, IsTold}
-use Rattle.ooo_access.proofs.Calling.{CalledAt, HasCalled}
+use Rattle.ooo_access.proofs.Calling.{HasDirect}
 
 -- ---- one of what is told
 
@@ -148,7 +148,7 @@ read_called : (changed taken given : List Bool) (c : ℕ) (x : BoundEvent) → t
 read_called changed taken given c (event.Taken d) e h = subst (λ n. IsIn taken n) (eqb-true c d e) h
 read_called changed taken given c x e h = absurd cc
 
-from_next : (changed taken given : List Bool) (events : List BoundEvent) (test : BoundEvent → Bool) (e : ℕ) (t : Option Time) → ((x : BoundEvent) → test x ≡ true → IsCalled changed taken given x) → Contains (touch.notified_next (touch.numbers_where test 0 events)) (touch.Notifies e t) → (t ≡ None) × CalledAt changed taken given events e
+from_next : (changed taken given : List Bool) (events : List BoundEvent) (test : BoundEvent → Bool) (e : ℕ) (t : Option Time) → ((x : BoundEvent) → test x ≡ true → IsCalled changed taken given x) → Contains (touch.notified_next (touch.numbers_where test 0 events)) (touch.Notifies e t) → (t ≡ None) × IsCalledAt changed taken given events e
 from_next changed taken given events test e t called m =
     let r = next_from test events (touch.Notifies e t) m in
     let q = r.1 in
@@ -157,7 +157,7 @@ from_next changed taken given events test e t called m =
     let z : r.0 - 0 ≡ e = omega arith in
     (b, record { event = r.2.item; is = subst (λ n. slice_get events n ≡ Some r.2.item) z r.2.is; called = called r.2.item r.2.passes })
 
-meant_from : (changed taken given : List Bool) (events : List BoundEvent) (told : List Told) (e : ℕ) (t : Option Time) (u : Told) → AreTold changed taken given told → Contains told u → Contains (meant events u) (touch.Notifies e t) → Contains told (tells.Notifies e t) ⊎ ((t ≡ None) × CalledAt changed taken given events e)
+meant_from : (changed taken given : List Bool) (events : List BoundEvent) (told : List Told) (e : ℕ) (t : Option Time) (u : Told) → AreTold changed taken given told → Contains told u → Contains (meant events u) (touch.Notifies e t) → Contains told (tells.Notifies e t) ⊎ ((t ≡ None) × IsCalledAt changed taken given events e)
 meant_from changed taken given events told e t (tells.Notifies f s) a among m =
     let q = one_is (touch.Notifies f s) (touch.Notifies e t) m in
     let x : f ≡ e = cc in
@@ -173,11 +173,16 @@ meant_from changed taken given events told e t (tells.DataWritten c) a among m =
 meant_from changed taken given events told e t u a among m = let q = one_is _ _ m in absurd cc
 
 -- the notifications that are listed are those that are meant
-pub notices_meant : (changed taken given : List Bool) (events : List BoundEvent) (told : List Told) (notices : List Notice) → AreTold changed taken given told → HasCalled changed taken given events told notices → (e : ℕ) (t : Option Time) → Contains notices (e, t) ↔ Contains (all_meant events told) (touch.Notifies e t)
-notices_meant changed taken given events told notices a h e t = (
-  λ w. elim ((h.has e t).0 w) [
-    | inl b ↦ in_meant events told (tells.Notifies e t) (touch.Notifies e t) b (in_first (touch.Notifies e t) [])
+pub notices_meant : (changed taken given : List Bool) (events : List BoundEvent) (told : List Told) (direct notices : List Notice) → AreTold changed taken given told → HasDirect told direct → ((e : ℕ) (t : Option Time) → Contains notices (e, t) ↔ (Contains direct (e, t) ⊎ ((t ≡ None) × IsCalledAt changed taken given events e))) → (e : ℕ) (t : Option Time) → Contains notices (e, t) ↔ Contains (all_meant events told) (touch.Notifies e t)
+notices_meant changed taken given events told direct notices a d h e t = (
+  λ w. elim ((h e t).0 w) [
+    | inl b ↦ in_meant events told (tells.Notifies e t) (touch.Notifies e t) ((d.has e t).0 b) (in_first (touch.Notifies e t) [])
     | inr b ↦ subst (λ s. Contains (all_meant events told) (touch.Notifies e s)) (sym b.0) (called_meant changed taken given events told e b.1.event a b.1.is b.1.called)
   ],
-  λ w. let m = meant_by events told (touch.Notifies e t) w in (h.has e t).1 (meant_from changed taken given events told e t m.one a m.among m.meant_is),
+  λ w.
+      let m = meant_by events told (touch.Notifies e t) w in
+      elim (meant_from changed taken given events told e t m.one a m.among m.meant_is) [
+        | inl b ↦ (h e t).1 (inl ((d.has e t).1 b))
+        | inr b ↦ (h e t).1 (inr b)
+      ],
 )

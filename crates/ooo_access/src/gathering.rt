@@ -1,7 +1,7 @@
 ghost use Rattle.std.specs.Prelude.{◌≡◌, Contains, IfOk};
 ghost use Rattle.ooo_code.specs.Segments.{IsSegment};
 ghost use Rattle.ooo_access.specs.Access.{AreAscending, AreThose, IsAccess, IsInOrder, Lists};
-ghost use Rattle.ooo_access.specs.Told.{IsTold, entry_waits, touched_of};
+ghost use Rattle.ooo_access.specs.Told.{IsTold, all_meant, entry_waits, touched_of};
 
 use crate::access::Access;
 use crate::nodes::told_of;
@@ -9,7 +9,8 @@ use crate::notices::notices_of;
 use crate::parts::set_of;
 use crate::told::{Part, Told};
 use crate::waiting::waited_on;
-use ooo_code::{Design, Proc, Segment};
+use ooo_code::{Design, Proc, Segment, SegmentEntry};
+use ooo_value::BoundEvent;
 use sqlite_items::{Items, at};
 use std::alloc::{AllocError, Global};
 
@@ -42,19 +43,71 @@ fn gather(
 {
     let nodes = segment.nodes.as_slice();
     let told = told_of(alloc, design, nodes)?;
-    let told = told.as_slice();
-    let waited = waited_on(alloc, design, process, segment.entry, nodes)?;
-    let notified = notices_of(alloc, design.events.as_slice(), told)?;
+    let waited = keeping!(told; waits_of(alloc, design, process, segment.entry, nodes));
+    lists_of(alloc, design.events.as_slice(), told.as_slice(), waited)
+}
+
+// The events on which an entry waits, ascending, whose segment has these nodes.
+fn waits_of(
+    alloc: Global,
+    design: &Design,
+    process: &Proc,
+    entry: SegmentEntry,
+    nodes: &[u32],
+) -> Result<Items<u32>, AllocError>
+    ensures members { IfOk result (AreThose
+        (Contains (entry_waits design.now process.now nodes.now entry))) }
+    ensures ascending { IfOk result AreAscending }
+{
+    let waited = waited_on(alloc, design, process, entry, nodes)?;
+    waited.numbers(alloc)
+}
+
+// The lists of an access, by what is told in a model with these events, and by the events that are waited on.
+fn lists_of(
+    alloc: Global,
+    events: &[BoundEvent],
+    told: &[Told],
+    waited: Items<u32>,
+) -> Result<Access, AllocError>
+    requires { AreAscending waited }
+    ensures exact { IfOk result (Lists (Contains (all_meant events.now told.now)) (Contains waited)) }
+    ensures in_order { IfOk result IsInOrder }
+{
+    let notified = keeping!(waited; notices_of(alloc, events, told));
+    let notified = Items::from_vec(notified);
+    let read = keeping!(waited, notified; numbers_of(alloc, told, Part::Read));
+    let written = keeping!(waited, notified, read; numbers_of(alloc, told, Part::Written));
+    let signals_read = keeping!(
+        waited, notified, read, written;
+        numbers_of(alloc, told, Part::SignalsRead)
+    );
+    let signals_written = keeping!(
+        waited, notified, read, written, signals_read;
+        numbers_of(alloc, told, Part::SignalsWritten)
+    );
+    let takes = keeping!(
+        waited, notified, read, written, signals_read, signals_written;
+        numbers_of(alloc, told, Part::Takes)
+    );
+    let puts = keeping!(
+        waited, notified, read, written, signals_read, signals_written, takes;
+        numbers_of(alloc, told, Part::Puts)
+    );
+    let cancelled = keeping!(
+        waited, notified, read, written, signals_read, signals_written, takes, puts;
+        numbers_of(alloc, told, Part::Cancelled)
+    );
     Ok(Access {
-        read: numbers_of(alloc, told, Part::Read)?,
-        written: numbers_of(alloc, told, Part::Written)?,
-        signals_read: numbers_of(alloc, told, Part::SignalsRead)?,
-        signals_written: numbers_of(alloc, told, Part::SignalsWritten)?,
-        takes: numbers_of(alloc, told, Part::Takes)?,
-        puts: numbers_of(alloc, told, Part::Puts)?,
-        cancelled: numbers_of(alloc, told, Part::Cancelled)?,
-        waited: waited.numbers(alloc)?,
-        notified: Items::from_vec(notified),
+        read,
+        written,
+        signals_read,
+        signals_written,
+        takes,
+        puts,
+        cancelled,
+        waited,
+        notified,
     })
 }
 

@@ -5,6 +5,20 @@
 //! segment's entry waits. Each list is ascending, and nothing stands in it twice. Only memory can run out.
 #![tactic(auto)]
 
+// What was made. Where memory ran out, what else was made goes by a call, since a drop of it in the midst of the body is dear to
+// prove.
+macro_rules! keeping {
+    ($($kept:ident),+; $made:expr) => {
+        match $made {
+            Ok(made) => made,
+            Err(error) => {
+                $(drop($kept);)+
+                return Err(error);
+            }
+        }
+    };
+}
+
 mod access;
 mod expressions;
 mod gathering;

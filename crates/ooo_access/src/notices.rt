@@ -1,10 +1,12 @@
-ghost use Rattle.std.specs.Prelude.{◌≡◌, ℕ, ◌⊎◌, ◌↔◌, true, Option, Contains, IsTrue, IfOk};
+ghost use Rattle.std.specs.Prelude.{◌≡◌, ℕ, ◌⊎◌, ◌↔◌, true, None, Option, Contains, IsTrue, IfOk, OnOk};
 ghost use Rattle.ooo_time.specs.declared.time.Time.{Time as TimeSpec};
 ghost use Rattle.ooo_code.specs.Touches.{Notifies};
+ghost use Rattle.ooo_segments.specs.Numbers.{IsIn};
+ghost use Rattle.ooo_access.specs.declared.told.Part.TheVariants as part;
 ghost use Rattle.ooo_access.specs.declared.told.Told.TheVariants as tells;
 ghost use Rattle.ooo_access.specs.Notices.{AreInOrder};
-ghost use Rattle.ooo_access.specs.Told.{all_meant};
-ghost use Rattle.ooo_access.specs.Calls.{IsCalled};
+ghost use Rattle.ooo_access.specs.Told.{IsTold, all_meant};
+ghost use Rattle.ooo_access.specs.Calls.{IsCalled, IsCalledAt};
 
 use crate::parts::set_of;
 use crate::sorting::{Notice, insert};
@@ -31,18 +33,29 @@ pub(crate) fn notices_of(
         Contains notices.items (e, t) ↔ Contains (all_meant events.now told.now) (Notifies e t)) }
     ensures in_order { IfOk result (λ notices. AreInOrder notices.items) }
 {
-    let called = Called {
-        changed: set_of(alloc, told, Part::Changed)?,
-        taken: set_of(alloc, told, Part::Taken)?,
-        given: set_of(alloc, told, Part::Given)?,
-    };
-    let mut notices = direct_notices(alloc, told)?;
-    for (e, event) in events.iter().enumerate() {
-        if called.calls(event) {
-            insert(&mut notices, (number_of(e)?, None))?;
-        }
-    }
+    let called = called_of(alloc, told)?;
+    let mut notices = keeping!(called; direct_notices(alloc, told));
+    keeping!(called, notices; called.add(&mut notices, events));
     Ok(notices)
+}
+
+// The channels of which events are notified.
+fn called_of(alloc: Global, told: &[Told]) -> Result<Called, AllocError>
+    ensures changed { IfOk result (λ called.
+        (n : ℕ) → IsIn called.changed n ↔ IsTold part.Changed n told.now) }
+    ensures taken { IfOk result (λ called.
+        (n : ℕ) → IsIn called.taken n ↔ IsTold part.Taken n told.now) }
+    ensures given { IfOk result (λ called.
+        (n : ℕ) → IsIn called.given n ↔ IsTold part.Given n told.now) }
+{
+    let changed = set_of(alloc, told, Part::Changed)?;
+    let taken = keeping!(changed; set_of(alloc, told, Part::Taken));
+    let given = keeping!(changed, taken; set_of(alloc, told, Part::Given));
+    Ok(Called {
+        changed,
+        taken,
+        given,
+    })
 }
 
 // The notifications that are told as such.
@@ -72,6 +85,23 @@ fn number_of(place: usize) -> Result<u32, AllocError>
 }
 
 impl Called {
+    // Puts the notifications of the events that are notified into their places.
+    fn add(&self, notices: &mut Vec<Notice>, events: &[BoundEvent]) -> Result<(), AllocError>
+        requires { AreInOrder notices.old.items }
+        ensures members { OnOk result ((e : ℕ) (t : Option TimeSpec) →
+            Contains notices.new.items (e, t) ↔ (Contains notices.old.items (e, t)
+            ⊎ ((t ≡ None) × IsCalledAt self.now.changed self.now.taken self.now.given
+            events.now e))) }
+        ensures in_order { OnOk result (AreInOrder notices.new.items) }
+    {
+        for (e, event) in events.iter().enumerate() {
+            if self.calls(event) {
+                insert(notices, (number_of(e)?, None))?;
+            }
+        }
+        Ok(())
+    }
+
     // Whether an event is notified.
     fn calls(&self, event: &BoundEvent) -> bool
         ensures { IsTrue result

@@ -1,36 +1,15 @@
--- Each list by what was told in its part.
-use Rattle.std.proofs.Common.{◌≡◌, ℕ, ap, ◌∙◌, ◌↔◌, Option}
+-- What is told is what the nodes touch.
+use Rattle.std.proofs.Common.{ap, ◌∙◌}
 use Rattle.std.specs.Prelude.{Contains}
-use Rattle.ooo_time.specs.declared.time.Time.{Time}
-use Rattle.ooo_code.specs.Touches.{Notifies}
+use Rattle.std.proofs.lemmas.Result.{IfOk-weaker}
+use Rattle.ooo_access.specs.Access.{AreThose}
 use Rattle.ooo_access.specs.Told.{all_meant, touched_of, entry_waits}
-use Rattle.ooo_access.proofs.Gathered.{gathered}
+use Rattle.ooo_access.proofs.Gathered.{same_lists}
 use Rattle.ooo_access.proofs.gathering.gather.Goals as goal
 
 pub returns-clause-exact : goal.returns-clause-exact
 returns-clause-exact c =
     let design = c.args.design.now in
-    let same = ap (λ ts. all_meant design.events ts) c.as_slice-told.ensures.value ∙ (c.in_ok-told.ensures ∙ ap (λ ns. touched_of design ns) c.as_slice-nodes.ensures) in
-    let notified : (e : ℕ) (t : Option Time) → Contains c.from_vec.result (e, t) ↔ Contains (all_meant design.events c.as_slice-told.result.now) (Notifies e t) =
-    rw (c.from_vec.ensures, ← c.as_slice.ensures) c.in_ok-notified.ensures.members in
-    gathered design c.args.segment.now.nodes c.as_slice-told.result.now _ _ same
-    c.in_ok-numbers_of.ensures.members c.in_ok-numbers_of-2.ensures.members c.in_ok-numbers_of-3.ensures.members c.in_ok-numbers_of-4.ensures.members
-    c.in_ok-numbers_of-5.ensures.members c.in_ok-numbers_of-6.ensures.members c.in_ok-numbers_of-7.ensures.members
-    notified
-    (λ e. (
-      λ h. let r = (c.in_ok-waited.ensures e).0 ((c.in_ok-numbers.ensures.same e).0 h) in rw c.as_slice-nodes.ensures at r,
-      λ h. (c.in_ok-numbers.ensures.same e).1 ((c.in_ok-waited.ensures e).1 (rw c.as_slice-nodes.ensures h)),
-    ))
-
-pub returns-clause-in_order : goal.returns-clause-in_order
-returns-clause-in_order c = record {
-  read = c.in_ok-numbers_of.ensures.ascending;
-  written = c.in_ok-numbers_of-2.ensures.ascending;
-  signals_read = c.in_ok-numbers_of-3.ensures.ascending;
-  signals_written = c.in_ok-numbers_of-4.ensures.ascending;
-  takes = c.in_ok-numbers_of-5.ensures.ascending;
-  puts = c.in_ok-numbers_of-6.ensures.ascending;
-  cancelled = c.in_ok-numbers_of-7.ensures.ascending;
-  waited = c.in_ok-numbers.ensures.ascending;
-  notified = rw c.from_vec.ensures c.in_ok-notified.ensures.in_order;
-}
+    let same = ap (λ es. all_meant es c.as_slice-2.result.now) c.as_slice.ensures ∙ (ap (λ ts. all_meant design.events ts) c.as_slice-2.ensures.value ∙ (c.in_ok-told.ensures ∙ ap (λ ns. touched_of design ns) c.as_slice-nodes.ensures)) in
+    let waits : AreThose (Contains (entry_waits design c.args.process.now c.args.segment.now.nodes c.args.segment.now.entry)) c.in-Ok.made = rw (← c.as_slice-nodes.ensures) c.in-Ok.ensures.members in
+    IfOk-weaker _ _ _ (λ a lists. same_lists _ _ _ _ a same waits lists) c.lists_of.ensures.exact
