@@ -3,7 +3,7 @@ ghost use Rattle.ooo_constants.specs.Times.{is_fixed, time_of as constant_time_o
 ghost use Rattle.ooo_constants.specs.Values.{operator_of};
 ghost use Rattle.ooo_numbers.specs.Exprs.{amount_of, expr_of, exprs_of, method_of, name_of, nothing, operated};
 ghost use Rattle.ooo_numbers.specs.Exprs.{option_of, prefixed, time_in, time_of, wait_of};
-ghost use Rattle.ooo_numbers.specs.Names.{events_of, known_in, numbering_of};
+ghost use Rattle.ooo_numbers.specs.Names.{events_of, known_in, numbering_of, variable_of};
 
 use crate::names::{channel_of, events, variable_of};
 use crate::numbers::Numbers;
@@ -87,6 +87,12 @@ fn joined(sign: BinaryOp, a: Boxed<BoundExpr>, b: Boxed<BoundExpr>) -> BoundExpr
     }
 }
 
+fn boxed_tree(alloc: Global, tree: BoundExpr) -> Result<Boxed<BoundExpr>, AllocError>
+    ensures { IfOk result (λ boxed. boxed ≡ tree) }
+{
+    Boxed::new(alloc, tree)
+}
+
 /// An expression, with numbers in place of names.
 #[cycle(expr)]
 #[tactic(auto, unfolding(crate::specs::Exprs::expr_of))]
@@ -102,27 +108,16 @@ pub(crate) fn expr(
         CheckedExpr::Truth(is_true, _) => Ok(BoundExpr::Constant(Value::Bool(*is_true))),
         CheckedExpr::Name(_, name) => named(numbers, name.denotes),
         CheckedExpr::Paren(_, _, e) => expr(alloc, numbers, e.get()),
-        CheckedExpr::Index(_, name, index) => {
-            let index = boxed(alloc, numbers, index.get())?;
-            Ok(BoundExpr::Element(variable_of(numbers, name.denotes), index))
-        }
+        CheckedExpr::Index(_, name, index) => indexed(alloc, numbers, name.denotes, index.get()),
         CheckedExpr::Call(_, _, _) => Ok(nothing()),
         CheckedExpr::Member(_, name, _, method, _) => Ok(called(numbers, name.denotes, *method)),
-        CheckedExpr::Prefix(_, _, op, e) => Ok(prefixed(*op, boxed(alloc, numbers, e.get())?)),
+        CheckedExpr::Prefix(_, _, op, e) => prefix(alloc, numbers, *op, e.get()),
         CheckedExpr::Cast(_, _, form, e) | CheckedExpr::Conversion(_, form, e) => {
-            let operand = boxed(alloc, numbers, e.get())?;
-            Ok(BoundExpr::Convert(kind_written(form.form), operand))
+            converted(alloc, numbers, kind_written(form.form), e.get())
         }
-        CheckedExpr::Binary(_, sign, a, b) => {
-            let left = boxed(alloc, numbers, a.get())?;
-            let right = boxed(alloc, numbers, b.get())?;
-            Ok(joined(*sign, left, right))
-        }
+        CheckedExpr::Binary(_, sign, a, b) => binary(alloc, numbers, *sign, a.get(), b.get()),
         CheckedExpr::Choose(kind, test, a, b) => {
-            let test = boxed(alloc, numbers, test.get())?;
-            let left = boxed(alloc, numbers, a.get())?;
-            let right = boxed(alloc, numbers, b.get())?;
-            Ok(BoundExpr::Choose(*kind, test, left, right))
+            choice(alloc, numbers, *kind, test.get(), a.get(), b.get())
         }
     }
 }
@@ -137,8 +132,93 @@ pub(crate) fn boxed(
 ) -> Result<Boxed<BoundExpr>, AllocError>
     ensures { IfOk result (λ tree. tree ≡ expr_of (numbering_of numbers.entry) e.now) }
 {
-    let tree = expr(alloc, numbers, e)?;
-    Boxed::new(alloc, tree)
+    let tree = got!(expr(alloc, numbers, e));
+    boxed_tree(alloc, tree)
+}
+
+// An element of an array.
+#[cycle(expr)]
+fn indexed(
+    alloc: Global,
+    numbers: Numbers<'_>,
+    name: Denotation,
+    index: &CheckedExpr,
+) -> Result<BoundExpr, AllocError>
+    ensures { IfOk result (λ tree. tree ≡ BoundExpr.Element
+        (variable_of (numbering_of numbers.entry) name)
+        (expr_of (numbering_of numbers.entry) index.now)) }
+{
+    let index = got!(boxed(alloc, numbers, index));
+    Ok(BoundExpr::Element(variable_of(numbers, name), index))
+}
+
+// A prefix and its operand.
+#[cycle(expr)]
+fn prefix(
+    alloc: Global,
+    numbers: Numbers<'_>,
+    op: PrefixOp,
+    e: &CheckedExpr,
+) -> Result<BoundExpr, AllocError>
+    ensures { IfOk result (λ tree. tree
+        ≡ prefixed op (expr_of (numbering_of numbers.entry) e.now)) }
+{
+    let operand = got!(boxed(alloc, numbers, e));
+    Ok(prefixed(op, operand))
+}
+
+// A value in another kind.
+#[cycle(expr)]
+fn converted(
+    alloc: Global,
+    numbers: Numbers<'_>,
+    kind: Kind,
+    e: &CheckedExpr,
+) -> Result<BoundExpr, AllocError>
+    ensures { IfOk result (λ tree. tree
+        ≡ BoundExpr.Convert kind (expr_of (numbering_of numbers.entry) e.now)) }
+{
+    let operand = got!(boxed(alloc, numbers, e));
+    Ok(BoundExpr::Convert(kind, operand))
+}
+
+// A sign and what stands before and behind it.
+#[cycle(expr)]
+fn binary(
+    alloc: Global,
+    numbers: Numbers<'_>,
+    sign: BinaryOp,
+    a: &CheckedExpr,
+    b: &CheckedExpr,
+) -> Result<BoundExpr, AllocError>
+    ensures { IfOk result (λ tree. tree ≡ operated sign (operator_of sign)
+        (expr_of (numbering_of numbers.entry) a.now)
+        (expr_of (numbering_of numbers.entry) b.now)) }
+{
+    let left = got!(boxed(alloc, numbers, a));
+    let right = keeping!(left; boxed(alloc, numbers, b));
+    Ok(joined(sign, left, right))
+}
+
+// A choice of this kind.
+#[cycle(expr)]
+fn choice(
+    alloc: Global,
+    numbers: Numbers<'_>,
+    kind: Kind,
+    test: &CheckedExpr,
+    a: &CheckedExpr,
+    b: &CheckedExpr,
+) -> Result<BoundExpr, AllocError>
+    ensures { IfOk result (λ tree. tree ≡ BoundExpr.Choose kind
+        (expr_of (numbering_of numbers.entry) test.now)
+        (expr_of (numbering_of numbers.entry) a.now)
+        (expr_of (numbering_of numbers.entry) b.now)) }
+{
+    let test = got!(boxed(alloc, numbers, test));
+    let left = keeping!(test; boxed(alloc, numbers, a));
+    let right = keeping!(test, left; boxed(alloc, numbers, b));
+    Ok(BoundExpr::Choose(kind, test, left, right))
 }
 
 /// Expressions one after the other.

@@ -4,6 +4,29 @@
 //! Proved: each call answers what the definitions in `specs/` say, or memory runs out. `Names` says what a name denotes.
 #![tactic(auto)]
 
+// What is made while values that were made before are kept: where nothing is, they go.
+macro_rules! keeping {
+    ($($kept:ident),+; $made:expr) => {
+        match $made {
+            Ok(made) => made,
+            Err(error) => {
+                $(drop($kept);)+
+                return Err(error);
+            }
+        }
+    };
+}
+
+// What was made, or that memory ran out: of a `?`, the walk of a large value costs twice as much.
+macro_rules! got {
+    ($made:expr) => {
+        match $made {
+            Ok(made) => made,
+            Err(error) => return Err(error),
+        }
+    };
+}
+
 mod exprs;
 mod names;
 mod numbers;

@@ -1,4 +1,4 @@
-ghost use Rattle.std.specs.Prelude.{◌≡◌, IfOk};
+ghost use Rattle.std.specs.Prelude.{◌≡◌, ◌∷◌, ◌++◌, [], IfOk};
 ghost use Rattle.std.specs.Option.{option_copied};
 ghost use Rattle.ooo_numbers.specs.Names.{numbering_of};
 ghost use Rattle.ooo_numbers.specs.Simples.{argument_of, assign_of, call_of, declarator_of, declarators_of, given_of, given_target};
@@ -486,6 +486,17 @@ pub(crate) fn boxed_declarator(
     boxed(alloc, lined)
 }
 
+/// Statements and one more.
+pub(crate) fn with(
+    mut list: Items<LinedSimple>,
+    more: LinedSimple,
+) -> Result<Items<LinedSimple>, AllocError>
+    ensures { IfOk result (λ all. all ≡ list ++ more ∷ []) }
+{
+    keeping!(list; list.push(more));
+    Ok(list)
+}
+
 // Declarators one after the other.
 fn declarators(
     alloc: Global,
@@ -499,7 +510,8 @@ fn declarators(
 {
     let mut all = Items::new(alloc);
     'parts: for part in names {
-        all.push(declarator(alloc, numbers, kind, line, part)?)?;
+        let lined = keeping!(all; declarator(alloc, numbers, kind, line, part));
+        all = with(all, lined)?;
     }
     Ok(all)
 }

@@ -1,14 +1,14 @@
-ghost use Rattle.std.specs.Prelude.{◌≡◌, [], IfOk};
+ghost use Rattle.std.specs.Prelude.{◌≡◌, ◌∷◌, ◌++◌, [], IfOk};
 ghost use Rattle.ooo_bound.specs.declared.stat.BoundStat.TheVariants as made;
 ghost use Rattle.ooo_checked.specs.declared.stat.CheckedStart.TheVariants as start;
-ghost use Rattle.ooo_numbers.specs.Exprs.{option_of};
+ghost use Rattle.ooo_numbers.specs.Exprs.{expr_of, option_of};
 ghost use Rattle.ooo_numbers.specs.Names.{numbering_of};
-ghost use Rattle.ooo_numbers.specs.Simples.{declarators_of, local_of};
+ghost use Rattle.ooo_numbers.specs.Simples.{declarators_of, lined_of, local_of};
 ghost use Rattle.ooo_numbers.specs.Stats.{after_of, as_stats, else_of, start_of, stat_of, stats_of};
 
 use crate::exprs::{boxed, option};
 use crate::numbers::Numbers;
-use crate::simples::{boxed_declarator, boxed_lined, lined, local};
+use crate::simples::{boxed_declarator, boxed_lined, lined, local, with};
 use ooo_bound::{BoundExpr, BoundStat, LinedSimple};
 use ooo_checked::{
     CheckedDeclarator, CheckedExpr, CheckedLocal, CheckedSimple, CheckedStart, CheckedStat,
@@ -17,6 +17,19 @@ use ooo_constants::kind_written;
 use ooo_value::Kind;
 use sqlite_items::{Boxed, Items};
 use std::alloc::{AllocError, Global};
+
+fn with_stat(mut list: Items<BoundStat>, more: BoundStat) -> Result<Items<BoundStat>, AllocError>
+    ensures { IfOk result (λ all. all ≡ list ++ more ∷ []) }
+{
+    keeping!(list; list.push(more));
+    Ok(list)
+}
+
+fn boxed_stat(alloc: Global, tree: BoundStat) -> Result<Boxed<BoundStat>, AllocError>
+    ensures { IfOk result (λ boxed. boxed ≡ tree) }
+{
+    Boxed::new(alloc, tree)
+}
 
 // Declarators one after the other, as statements.
 fn declared(
@@ -31,7 +44,8 @@ fn declared(
 {
     let mut all = Items::new(alloc);
     'parts: for part in names {
-        all.push(BoundStat::Simple(boxed_declarator(alloc, numbers, kind, line, part)?))?;
+        let lined = keeping!(all; boxed_declarator(alloc, numbers, kind, line, part));
+        all = with_stat(all, BoundStat::Simple(lined))?;
     }
     Ok(all)
 }
@@ -55,6 +69,46 @@ fn local_stats(
     )
 }
 
+// A declaration of locals as a statement.
+fn local_stat(
+    alloc: Global,
+    numbers: Numbers<'_>,
+    given: &CheckedLocal,
+) -> Result<BoundStat, AllocError>
+    ensures { IfOk result (λ tree. tree
+        ≡ BoundStat.Block (as_stats (local_of (numbering_of numbers.entry) given.now))) }
+{
+    let body = got!(local_stats(alloc, numbers, given));
+    Ok(BoundStat::Block(body))
+}
+
+// A simple statement as a statement.
+fn plain_stat(
+    alloc: Global,
+    numbers: Numbers<'_>,
+    statement: &CheckedSimple,
+) -> Result<BoundStat, AllocError>
+    ensures { IfOk result (λ tree. tree
+        ≡ BoundStat.Simple (lined_of (numbering_of numbers.entry) statement.now)) }
+{
+    let lined = got!(boxed_lined(alloc, numbers, statement));
+    Ok(BoundStat::Simple(lined))
+}
+
+// `return`
+fn return_stat(
+    alloc: Global,
+    numbers: Numbers<'_>,
+    line: u32,
+    value: &Option<Boxed<CheckedExpr>>,
+) -> Result<BoundStat, AllocError>
+    ensures { IfOk result (λ tree. tree
+        ≡ BoundStat.Return line (option_of (numbering_of numbers.entry) value.now)) }
+{
+    let value = got!(option(alloc, numbers, value));
+    Ok(BoundStat::Return(line, value))
+}
+
 // A statement by itself.
 fn single(
     alloc: Global,
@@ -64,9 +118,8 @@ fn single(
     ensures { IfOk result (λ all. all
         ≡ start_of (numbering_of numbers.entry) (Some (start.Simple statement.now))) }
 {
-    let mut all = Items::new(alloc);
-    all.push(lined(alloc, numbers, statement)?)?;
-    Ok(all)
+    let lined = got!(lined(alloc, numbers, statement));
+    with(Items::new(alloc), lined)
 }
 
 // What a `for` begins with.
@@ -136,8 +189,8 @@ fn for_head(
         head.after ≡ after_of (numbering_of numbers.entry) step.now) }
 {
     let begins = start(alloc, numbers, begins)?;
-    let test = option(alloc, numbers, test)?;
-    let after = after(alloc, numbers, step)?;
+    let test = keeping!(begins; option(alloc, numbers, test));
+    let after = keeping!(begins, test; after(alloc, numbers, step));
     Ok(ForHead {
         begins,
         test,
@@ -145,9 +198,74 @@ fn for_head(
     })
 }
 
+// An `if` by its test and the statements that are made already.
+fn if_stat(
+    alloc: Global,
+    numbers: Numbers<'_>,
+    line: u32,
+    test: &CheckedExpr,
+    yes: Boxed<BoundStat>,
+    no: Option<Boxed<BoundStat>>,
+) -> Result<BoundStat, AllocError>
+    ensures { IfOk result (λ tree. tree
+        ≡ BoundStat.If line (expr_of (numbering_of numbers.entry) test.now) yes no) }
+{
+    let test = keeping!(yes, no; boxed(alloc, numbers, test));
+    Ok(BoundStat::If(line, test, yes, no))
+}
+
+// A `while` by its test and the body that is made already.
+fn while_stat(
+    alloc: Global,
+    numbers: Numbers<'_>,
+    line: u32,
+    test: &CheckedExpr,
+    body: Boxed<BoundStat>,
+) -> Result<BoundStat, AllocError>
+    ensures { IfOk result (λ tree. tree
+        ≡ BoundStat.While line (expr_of (numbering_of numbers.entry) test.now) body) }
+{
+    let test = keeping!(body; boxed(alloc, numbers, test));
+    Ok(BoundStat::While(line, test, body))
+}
+
+// A `do` by the body that is made already and its test.
+fn do_stat(
+    alloc: Global,
+    numbers: Numbers<'_>,
+    line: u32,
+    body: Boxed<BoundStat>,
+    test: &CheckedExpr,
+) -> Result<BoundStat, AllocError>
+    ensures { IfOk result (λ tree. tree
+        ≡ BoundStat.Do line body (expr_of (numbering_of numbers.entry) test.now)) }
+{
+    let test = keeping!(body; boxed(alloc, numbers, test));
+    Ok(BoundStat::Do(line, body, test))
+}
+
+// A `for` by its head and the body that is made already.
+fn for_stat(
+    alloc: Global,
+    numbers: Numbers<'_>,
+    line: u32,
+    begins: &Option<Boxed<CheckedStart>>,
+    test: &Option<Boxed<CheckedExpr>>,
+    step: &Option<Boxed<CheckedSimple>>,
+    body: Boxed<BoundStat>,
+) -> Result<BoundStat, AllocError>
+    ensures { IfOk result (λ tree. tree ≡ BoundStat.For line
+        (start_of (numbering_of numbers.entry) begins.now)
+        (option_of (numbering_of numbers.entry) test.now)
+        (after_of (numbering_of numbers.entry) step.now) body) }
+{
+    let head = keeping!(body; for_head(alloc, numbers, begins, test, step));
+    Ok(head.around(line, body))
+}
+
 // A statement.
 #[cycle(stat)]
-#[tactic(auto, unfolding(crate::specs::Stats::stat_of), using(crate::proofs::Blocks::stat_of_block, crate::proofs::Blocks::stat_of_if))]
+#[tactic(auto, unfolding(crate::specs::Stats::stat_of))]
 fn stat(
     alloc: Global,
     numbers: Numbers<'_>,
@@ -156,47 +274,41 @@ fn stat(
     ensures { IfOk result (λ tree. tree ≡ stat_of (numbering_of numbers.entry) statement.now) }
 {
     match statement {
-        CheckedStat::Block(_, body) => {
-            let body = stats(alloc, numbers, body.as_slice())?;
-            Ok(BoundStat::Block(body))
-        }
+        CheckedStat::Block(_, body) => block(alloc, numbers, body.as_slice()),
         CheckedStat::Empty(_) => Ok(BoundStat::Block(Items::new(alloc))),
-        CheckedStat::Local(given) => {
-            let body = local_stats(alloc, numbers, given.get())?;
-            Ok(BoundStat::Block(body))
-        }
-        CheckedStat::Simple(statement) => {
-            let lined = boxed_lined(alloc, numbers, statement.get())?;
-            Ok(BoundStat::Simple(lined))
-        }
+        CheckedStat::Local(given) => local_stat(alloc, numbers, given.get()),
+        CheckedStat::Simple(statement) => plain_stat(alloc, numbers, statement.get()),
         CheckedStat::If(at, test, yes, no) => {
-            let test = boxed(alloc, numbers, test.get())?;
-            let yes = inner(alloc, numbers, yes.get())?;
-            let no = otherwise(alloc, numbers, no)?;
-            Ok(BoundStat::If(at.line, test, yes, no))
+            let yes = got!(inner(alloc, numbers, yes.get()));
+            let no = keeping!(yes; otherwise(alloc, numbers, no));
+            if_stat(alloc, numbers, at.line, test.get(), yes, no)
         }
         CheckedStat::While(at, test, body) => {
-            let test = boxed(alloc, numbers, test.get())?;
-            let body = inner(alloc, numbers, body.get())?;
-            Ok(BoundStat::While(at.line, test, body))
+            let body = got!(inner(alloc, numbers, body.get()));
+            while_stat(alloc, numbers, at.line, test.get(), body)
         }
         CheckedStat::Do(at, body, test) => {
-            let body = inner(alloc, numbers, body.get())?;
-            let test = boxed(alloc, numbers, test.get())?;
-            Ok(BoundStat::Do(at.line, body, test))
+            let body = got!(inner(alloc, numbers, body.get()));
+            do_stat(alloc, numbers, at.line, body, test.get())
         }
         CheckedStat::For(at, begins, test, step, body) => {
-            let head = for_head(alloc, numbers, begins, test, step)?;
-            let body = inner(alloc, numbers, body.get())?;
-            Ok(head.around(at.line, body))
+            let body = got!(inner(alloc, numbers, body.get()));
+            for_stat(alloc, numbers, at.line, begins, test, step, body)
         }
         CheckedStat::Break(at) => Ok(BoundStat::Break(at.line)),
         CheckedStat::Continue(at) => Ok(BoundStat::Continue(at.line)),
-        CheckedStat::Return(at, value) => {
-            let value = option(alloc, numbers, value)?;
-            Ok(BoundStat::Return(at.line, value))
-        }
+        CheckedStat::Return(at, value) => return_stat(alloc, numbers, at.line, value),
     }
+}
+
+// A block.
+#[cycle(stat)]
+fn block(alloc: Global, numbers: Numbers<'_>, body: &[CheckedStat]) -> Result<BoundStat, AllocError>
+    ensures { IfOk result (λ tree.
+        tree ≡ BoundStat.Block (stats_of (numbering_of numbers.entry) body.now)) }
+{
+    let body = got!(stats(alloc, numbers, body));
+    Ok(BoundStat::Block(body))
 }
 
 // No statement yet, with room for so many.
@@ -222,7 +334,8 @@ pub fn stats(
 {
     let mut all = room(alloc, body.len())?;
     'parts: for part in body {
-        all.push(stat(alloc, numbers, part)?)?;
+        let tree = keeping!(all; stat(alloc, numbers, part));
+        all = with_stat(all, tree)?;
     }
     Ok(all)
 }
@@ -237,8 +350,8 @@ fn inner(
 ) -> Result<Boxed<BoundStat>, AllocError>
     ensures { IfOk result (λ tree. tree ≡ stat_of (numbering_of numbers.entry) statement.now) }
 {
-    let tree = stat(alloc, numbers, statement)?;
-    Boxed::new(alloc, tree)
+    let tree = got!(stat(alloc, numbers, statement));
+    boxed_stat(alloc, tree)
 }
 
 // The statement after `else`, if there is one.
@@ -254,7 +367,7 @@ fn otherwise(
     match no {
         None => Ok(None),
         Some(statement) => {
-            let tree = inner(alloc, numbers, statement.get())?;
+            let tree = got!(inner(alloc, numbers, statement.get()));
             Ok(Some(tree))
         }
     }
