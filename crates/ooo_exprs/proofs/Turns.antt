@@ -17,7 +17,7 @@ use Rattle.ooo_grammar.specs.Codes.{Code, deeper, within}
 use Rattle.ooo_syntax.specs.declared.terminal.Terminal.TheVariants as terminal
 use Rattle.ooo_grammar.specs.Names.{word_tails}
 use Rattle.ooo_grammar.specs.Combinators.{signs_of, Table, rows, terminals_of, always, op_of, levels, are_apart}
-use Rattle.ooo_grammar.specs.Expressions.{binary_levels, sum_levels, counted_sum, whole_expression, plain_expression, inside_expression, expression, unary, plain_unary, operand, converted, chosen}
+use Rattle.ooo_grammar.specs.Expressions.{binary_levels, sum_levels, counted_sum, inner, inner_plain, whole_expression, plain_expression, inside_expression, expression, unary, plain_unary, operand, converted, chosen}
 use Rattle.ooo_grammar.specs.Readings.{Room, fits, reader}
 use Rattle.ooo_grammar.specs.Gives.{Gives, Stops, reads_at, room_at}
 use Rattle.ooo_exprs.specs.Levels.{turn, op_levels, levels_r, level_r, op_in, op_at, kinds_in, kinds_at, first_r, level_at, others_of, is_inside, chosen_r, expression_r, turn_at}
@@ -125,6 +125,23 @@ whole_gives l ts r h = subst (λ o. Gives o r) (sym (whole_is l ts)) h
 pub plain_gives : (l : Limits) (ts : List Symbol) (r : Result (Expr × Bor (List Symbol)) ReadError) → Gives (expression_r l first.Plain ts) r → Gives (reads_at l plain_expression ts) r
 plain_gives l ts r h = subst (λ o. Gives o r) (sym (plain_is l ts)) h
 
+-- the same, one level deeper
+pub inner_gives : (l m : Limits) (ts : List Symbol) (r : Result (Expr × Bor (List Symbol)) ReadError) → 0 < l.levels → m.levels ≡ l.levels - 1 → m.bound ≡ l.bound → Gives (expression_r m first.Any ts) r → Gives (reads_at l inner ts) r
+unfolding inner
+inner_gives l m ts r lt i j h =
+    let e : l.levels ≡ suc m.levels = omega arith in
+    subst (λ o. Gives o r)
+    (ap (λ b. reader m.levels (room_at b) whole_expression ts) j ∙ ap (λ n. reader n (room_at l.bound) inner ts) (sym e))
+    (whole_gives m ts r h)
+
+pub inner_plain_gives : (l m : Limits) (ts : List Symbol) (r : Result (Expr × Bor (List Symbol)) ReadError) → 0 < l.levels → m.levels ≡ l.levels - 1 → m.bound ≡ l.bound → Gives (expression_r m first.Plain ts) r → Gives (reads_at l inner_plain ts) r
+unfolding inner_plain
+inner_plain_gives l m ts r lt i j h =
+    let e : l.levels ≡ suc m.levels = omega arith in
+    subst (λ o. Gives o r)
+    (ap (λ b. reader m.levels (room_at b) plain_expression ts) j ∙ ap (λ n. reader n (room_at l.bound) inner_plain ts) (sym e))
+    (plain_gives m ts r h)
+
 pub inside_is : (l : Limits) (t : TypeName) (ts : List Symbol) → reads_at l (inside_expression t) ts ≡ expression_r l (first.Converted t) ts
 unfolding inside_expression level_r first_r
 inside_is l t ts = ap (λ p. after (p ts) (λ a. reads_at l (deeper (chosen a)))) (levels_are l.levels (room_at l.bound) true binary_levels (within (terminal.Open ∷ []) (always word_tails) (deeper (converted t)) refl (λ _. refl)) operand refl)
@@ -188,3 +205,8 @@ level_goes_on l m x k o n i a b t rest later more p h q j s u v w d =
 pub chosen_inside : (l m : Limits) (x : First) (a : Expr) (ts : List Symbol) (r : Result (Expr × Bor (List Symbol)) ReadError) → ((t : TypeName) × x ≡ first.Converted t) ⊎ (x ≡ first.Operand) → m.levels ≡ l.levels - 1 → m.bound ≡ l.bound → Gives (reads_at m (chosen a) ts) r → Gives (chosen_r l x a ts) r
 chosen_inside l m x a ts r (inl (t, e)) i j h = subst (λ x. Gives (chosen_r l x a ts) r) (sym e) (deeper_gives l m (chosen a) ts r i j h)
 chosen_inside l m x a ts r (inr e) i j h = subst (λ x. Gives (chosen_r l x a ts) r) (sym e) (deeper_gives l m (chosen a) ts r i j h)
+
+-- and where it doesn't
+pub chosen_outside : (l : Limits) (x : First) (a : Expr) (ts : List Symbol) (r : Result (Expr × Bor (List Symbol)) ReadError) → (x ≡ first.Any) ⊎ (x ≡ first.Plain) → Gives (reads_at l (chosen a) ts) r → Gives (chosen_r l x a ts) r
+chosen_outside l x a ts r (inl e) h = subst (λ x. Gives (chosen_r l x a ts) r) (sym e) h
+chosen_outside l x a ts r (inr e) h = subst (λ x. Gives (chosen_r l x a ts) r) (sym e) h

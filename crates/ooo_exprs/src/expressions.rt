@@ -1,7 +1,7 @@
 ghost use Rattle.std.specs.Prelude.{◌≡◌, ◌∷◌, ◌++◌, [], ◌≤◌, IfOk, refl};
 ghost use Rattle.ooo_grammar.specs.Codes.{deeper};
 ghost use Rattle.ooo_grammar.specs.Combinators.{in_parens, led, optional, quoted, to};
-ghost use Rattle.ooo_grammar.specs.Expressions.{after_open, after_short_type, after_unsigned_cast, after_word, arguments, bracketed, cast_to, chosen, conversion, conversion_first, converted, expressions, index, inner, inner_plain, inside_expression, long_cast, member_call, named, numeral, operand, parenthesis, plain_expression, plain_unary, prefixed, prefixed_by, short_type, some_expressions, truth, unary, whole_expression};
+ghost use Rattle.ooo_grammar.specs.Expressions.{after_open, after_short_type, after_unsigned_cast, after_word, arguments, bracketed, cast_to, chosen, conversion, conversion_first, converted, expressions, index, inner, inner_plain, long_cast, member_call, named, numeral, operand, parenthesis, plain_unary, prefixed, prefixed_by, short_type, some_expressions, truth, unary, whole_expression};
 ghost use Rattle.ooo_grammar.specs.Lexis.{long_after, named_type, plain_type};
 ghost use Rattle.ooo_grammar.specs.Gives.{Gives, reads_at};
 ghost use Rattle.ooo_exprs.specs.Levels.{expression_r, first_r, is_inside, item_step, level_at, op_levels, others_of};
@@ -64,7 +64,7 @@ pub(crate) fn read_inner<'a>(
     ensures { Gives (reads_at limits inner tokens.now) result }
 {
     if limits.levels > 0 {
-        return read_whole(alloc, tokens, limits.inside());
+        return read_expression(alloc, First::Any, tokens, limits.inside());
     }
     if begins_with_expression(tokens) {
         return Err(ReadError::TooDeep(tokens.len()));
@@ -442,7 +442,6 @@ fn read_expression<'a>(
 }
 
 // An expression.
-#[cycle(read)]
 #[tactic(auto, using(crate::proofs::Turns::whole_gives))]
 pub(crate) fn read_whole<'a>(
     alloc: Global,
@@ -461,35 +460,12 @@ fn read_inner_plain<'a>(alloc: Global, tokens: &'a [Symbol<'a>], limits: Limits)
     ensures { Gives (reads_at limits inner_plain tokens.now) result }
 {
     if limits.levels > 0 {
-        return read_plain(alloc, tokens, limits.inside());
+        return read_expression(alloc, First::Plain, tokens, limits.inside());
     }
     if begins_with_plain(tokens) {
         return Err(ReadError::TooDeep(tokens.len()));
     }
     Err(ReadError::Syntax(tokens.len()))
-}
-
-// An expression that doesn't begin with a type.
-#[cycle(read)]
-#[tactic(auto, using(crate::proofs::Turns::plain_gives))]
-fn read_plain<'a>(alloc: Global, tokens: &'a [Symbol<'a>], limits: Limits) -> Read<'a, Expr>
-    ensures { Gives (reads_at limits plain_expression tokens.now) result }
-{
-    read_expression(alloc, First::Plain, tokens, limits)
-}
-
-// An expression that begins with a conversion, after the type.
-#[cycle(read)]
-#[tactic(auto, using(crate::proofs::Turns::inside_gives))]
-fn read_inside<'a>(
-    alloc: Global,
-    form: TypeName,
-    tokens: &'a [Symbol<'a>],
-    limits: Limits,
-) -> Read<'a, Expr>
-    ensures { Gives (reads_at limits (inside_expression form) tokens.now) result }
-{
-    read_expression(alloc, First::Converted(form), tokens, limits)
 }
 
 // What a cast converts, after its type.
@@ -534,7 +510,7 @@ fn read_conversion_first<'a>(
 ) -> Read<'a, Expr>
     ensures { Gives (reads_at limits (conversion_first opening form) tokens.now) result }
 {
-    let (of, rest) = got!(read_inside(alloc, form, tokens, limits));
+    let (of, rest) = got!(read_expression(alloc, First::Converted(form), tokens, limits));
     let found = parenthesized(alloc, opening, of)?;
     followed(found, Terminal::Close, rest, limits)
 }

@@ -9,9 +9,9 @@ use Rattle.ooo_grammar.specs.Combinators.{quoted}
 use Rattle.ooo_grammar.specs.Expressions.{after_open, after_short_type, after_unsigned_cast, after_word, arguments, bracketed, cast_to, chosen, conversion, conversion_first, converted, index, inner, long_cast, member_call, named, parenthesis, plain_unary, prefixed, prefixed_by, some_expressions, unary}
 use Rattle.ooo_grammar.specs.Gives.{answer, reads_at}
 use Rattle.ooo_grammar.specs.Steps.{stops_first, stops_second, got_second, deeper_gives, deeper_is, loop_turn, loop_stops, loop_ends}
-use Rattle.ooo_exprs.specs.Levels.{first_r, item_step}
+use Rattle.ooo_exprs.specs.Levels.{first_r, item_step, kinds_at, turn_at}
 use Rattle.ooo_exprs.specs.Steps.{gives_second, gives_made, loop_begins}
-use Rattle.ooo_exprs.proofs.Turns.{chosen_inside, level_gives_last, level_stops, level_init, level_leaves, level_deep, level_right, level_goes_on}
+use Rattle.ooo_exprs.proofs.Turns.{chosen_inside, chosen_outside, inner_gives, inner_plain_gives, inside_gives, inside_is, level_gives_last, level_stops, level_init, level_leaves, level_deep, level_right, level_goes_on}
 use Rattle.ooo_exprs.proofs.expressions.+read.Goals as goal
 
 pub read_level-returns-then-number-ge10 : goal.read_level-returns-then-number-ge10
@@ -25,8 +25,7 @@ read_level-turns-init t c = level_init c.args.limits c.args.first c.args.number 
 
 pub read_level-returns-in_default-op_of_level : goal.read_level-returns-in_default-op_of_level
 read_level-returns-in_default-op_of_level t c =
-    let s = level_leaves c.args.limits c.args.first c.args.number _ _ c.turns.left c.in-Some.token c.turns.rest.now c.in-Some.after.now c.turns.invariant in
-    first_of (search rules, grind (arith, common_steps))
+    level_leaves c.args.limits c.args.first c.args.number _ _ c.turns.left c.in-Some.token c.turns.rest.now c.in-Some.after.now c.turns.invariant (search rules) (search rules)
 
 pub read_level-returns-then-not-fit : goal.read_level-returns-then-not-fit
 read_level-returns-then-not-fit t c =
@@ -39,15 +38,16 @@ pub read_level-returns-in-Err-read_level : goal.read_level-returns-in-Err-read_l
 read_level-returns-in-Err-read_level t c =
     let n = length c.in-Ok.found.1.now in
     let e : n - c.turns._turn ≡ suc (n - (c.turns._turn + 1)) = omega (arith, c.turns-test.true) in
-    let s = level_right c.args.limits c.op_limits-signs.result c.args.first c.args.number _ (n - c.turns._turn) (n - (c.turns._turn + 1)) c.turns.left c.in-Some.token c.turns.rest.now c.in-Some.after.now c.in-Some-op_of_level.op c.in-Err-read_level.error c.turns.invariant e in
-    first_of (search rules, grind (arith, common_steps))
+    level_right c.args.limits c.op_limits-signs.result c.args.first c.args.number _ (n - c.turns._turn) (n - (c.turns._turn + 1)) c.turns.left c.in-Some.token c.turns.rest.now c.in-Some.after.now c.in-Some-op_of_level.op c.in-Err-read_level.error c.turns.invariant e
+    (search rules) (search rules) c.op_limits-signs.ensures.levels c.op_limits-signs.ensures.bound (search rules) (search rules)
 
 pub read_level-turns-preserved : goal.read_level-turns-preserved
 read_level-turns-preserved t c =
     let n = length c.in-Ok.found.1.now in
     let e : n - c.turns._turn ≡ suc (n - (c.turns._turn + 1)) = omega (arith, c.turns-test.true) in
-    let s = level_goes_on c.args.limits c.op_limits-signs.result c.args.first c.args.number _ (n - c.turns._turn) (n - (c.turns._turn + 1)) c.turns.left c.in-Ok-read_level.found.0 c.in-Some.token c.turns.rest.now c.in-Some.after.now c.in-Ok-read_level.found.1.now c.in-Some-op_of_level.op c.turns.invariant e in
-    first_of (search rules, grind (arith, common_steps))
+    level_goes_on c.args.limits c.op_limits-signs.result c.args.first c.args.number _ (n - c.turns._turn) (n - (c.turns._turn + 1)) c.turns.left c.in-Ok-read_level.found.0 c.in-Some.token c.turns.rest.now c.in-Some.after.now c.in-Ok-read_level.found.1.now c.in-Some-op_of_level.op c.turns.invariant e
+    (search rules) (search rules) c.op_limits-signs.ensures.levels c.op_limits-signs.ensures.bound (search rules) (search rules)
+    ∙ ap (λ (a : Expr). repeats_in (in_set (kinds_at c.args.number)) (turn_at c.args.limits c.args.first c.args.number) (n - (c.turns._turn + 1)) a c.in-Ok-read_level.found.1.now) (sym c.in_ok-left.ensures)
 
 pub read_boxed_inner-returns-in-Err : goal.read_boxed_inner-returns-in-Err
 read_boxed_inner-returns-in-Err t c = c.in-Err.ensures
@@ -270,12 +270,13 @@ read_cast_to-returns t c = got_second _ c.in-Ok.ensures (got_second _ c.in-Ok-re
 
 pub read_conversion_first-returns-in-Err : goal.read_conversion_first-returns-in-Err
 unfolding conversion_first
-read_conversion_first-returns-in-Err t c = stops_first _ _ _ (stops_first _ _ _ c.in-Err.ensures)
+read_conversion_first-returns-in-Err t c =
+    stops_first _ _ _ (stops_first _ _ _ (inside_gives c.args.limits c.args.form c.args.tokens.now (Err c.in-Err.error) c.in-Err.ensures))
 
 pub read_conversion_first-returns : goal.read_conversion_first-returns
 unfolding conversion_first
 read_conversion_first-returns t c =
-    gives_made (reads_at c.args.limits (quoted terminal.Close) c.in-Ok.found.1.now) c.in-Ok.found.0 _ (λ (e : Expr). expr.Paren c.args.opening.position e) _ (got_second _ c.in-Ok.ensures refl) c.in_ok-found.ensures c.followed.ensures
+    gives_made (reads_at c.args.limits (quoted terminal.Close) c.in-Ok.found.1.now) c.in-Ok.found.0 _ (λ (e : Expr). expr.Paren c.args.opening.position e) _ (got_second _ (inside_is c.args.limits c.args.form c.args.tokens.now ∙ c.in-Ok.ensures) refl) c.in_ok-found.ensures c.followed.ensures
 
 pub read_parenthesis-returns-in-Err : goal.read_parenthesis-returns-in-Err
 unfolding parenthesis
@@ -393,3 +394,27 @@ read_unary-returns-then-begins_with_short_type t c = rw (sym c.begins_with_short
 pub read_unary-returns : goal.read_unary-returns
 unfolding unary
 read_unary-returns t c = rw (sym c.begins_with_short_type.ensures ∙ c.if-begins_with_short_type.false) (c.read_plain_unary.ensures)
+
+pub read_first-returns-in-Any : goal.read_first-returns-in-Any
+unfolding first_r
+read_first-returns-in-Any t c = rw c.in-Any.is c.read_unary.ensures
+
+pub read_first-returns-in-Plain : goal.read_first-returns-in-Plain
+unfolding first_r
+read_first-returns-in-Plain t c = rw c.in-Plain.is c.read_plain_unary.ensures
+
+pub read_first-returns-in-Operand : goal.read_first-returns-in-Operand
+unfolding first_r
+read_first-returns-in-Operand t c = rw c.in-Operand.is c.read_operand.ensures
+
+pub read_expression-returns-in-Any : goal.read_expression-returns-in-Any
+read_expression-returns-in-Any t c =
+    gives_second _ _ c.in-Ok.ensures (chosen_outside c.args.limits c.args.first c.in-Ok.found.0 c.in-Ok.found.1.now _ c.in-Any.is c.read_chosen.ensures)
+
+pub read_inner-returns-then-limits-gt0 : goal.read_inner-returns-then-limits-gt0
+read_inner-returns-then-limits-gt0 t c =
+    inner_gives c.args.limits c.inside.result c.args.tokens.now _ (omega arith) c.inside.ensures.levels c.inside.ensures.bound c.read_expression.ensures
+
+pub read_inner_plain-returns-then-limits-gt0 : goal.read_inner_plain-returns-then-limits-gt0
+read_inner_plain-returns-then-limits-gt0 t c =
+    inner_plain_gives c.args.limits c.inside.result c.args.tokens.now _ (omega arith) c.inside.ensures.levels c.inside.ensures.bound c.read_expression.ensures

@@ -55,17 +55,8 @@ decreases-read_chosen l = l.limits.levels * 64 + 2
 abbrev pub decreases-read_converted : goal.decreases-read_converted
 decreases-read_converted l = l.limits.levels * 64 + 2
 
-abbrev pub decreases-read_whole : goal.decreases-read_whole
-decreases-read_whole l = l.limits.levels * 64 + 43
-
 abbrev pub decreases-read_inner_plain : goal.decreases-read_inner_plain
 decreases-read_inner_plain l = l.limits.levels * 64 + 0
-
-abbrev pub decreases-read_plain : goal.decreases-read_plain
-decreases-read_plain l = l.limits.levels * 64 + 43
-
-abbrev pub decreases-read_inside : goal.decreases-read_inside
-decreases-read_inside l = l.limits.levels * 64 + 17
 
 abbrev pub decreases-read_cast_to : goal.decreases-read_cast_to
 decreases-read_cast_to l = l.limits.levels * 64 + 1
