@@ -98,7 +98,7 @@ fn argument_kind(
 ) -> Result<NodeKind, AllocError>
     ensures { IfOk result (λ k. k ≡ argument_kind t u kind slot e.now) }
 {
-    let value = lowered(alloc, t, e)?;
+    let value = got!(lowered(alloc, t, e));
     set_kind(alloc, u, kind, slot, value)
 }
 
@@ -116,10 +116,10 @@ pub(crate) fn put_arguments(
 {
     let given = kinds.len().min(args.len());
     'args: for n in 0..given {
-        let to = code.after()?;
-        let slot = narrow(n as u64)?;
-        let kind = argument_kind(alloc, spot.around, u, kinds[n], slot, &args[n])?;
-        code.put_uncounted(kind, spot.line, to)?;
+        let to = got!(code.after());
+        let slot = got!(narrow(n as u64));
+        let kind = got!(argument_kind(alloc, spot.around, u, kinds[n], slot, &args[n]));
+        got!(code.put_uncounted(kind, spot.line, to));
     }
     Ok(())
 }

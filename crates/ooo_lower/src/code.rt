@@ -72,7 +72,6 @@ impl Code {
             line,
             counts,
             next,
-        })?;
-        Ok(())
+        })
     }
 }

@@ -84,21 +84,21 @@ fn lower_process(
     let depth = known.model.functions.len();
     let body = process.body.as_slice();
     let widths = of_body(body);
-    let first = code.at()?;
-    let size = body_size(scene, depth, body)?;
-    let end = past(first, size)?;
-    push_first(alloc, code)?;
-    push_locals(code, widths)?;
+    let first = got!(code.at());
+    let size = got!(body_size(scene, depth, body));
+    let end = got!(past(first, size));
+    got!(push_first(alloc, code));
+    got!(push_locals(code, widths));
     let spot = Spot {
         around: around_process(widths, end),
         line: 0,
         next: end,
         depth,
     };
-    emit_stats(Site { alloc, scene, spot }, code, body)?;
-    code.put_uncounted(NodeKind::End, 0, end)?;
-    let after = code.at()?;
-    let sensitive = Items::from_slice(alloc, process.sensitive.as_slice())?;
+    got!(emit_stats(Site { alloc, scene, spot }, code, body));
+    got!(code.put_uncounted(NodeKind::End, 0, end));
+    let after = got!(code.at());
+    let sensitive = got!(Items::from_slice(alloc, process.sensitive.as_slice()));
     let slots = std::mem::replace(&mut code.slots, Items::new(alloc));
     Ok(Proc {
         kind: process.kind,

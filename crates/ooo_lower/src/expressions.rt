@@ -24,7 +24,7 @@ pub(crate) fn slot_of(t: Around, kind: Kind, slot: u32) -> Result<u32, AllocErro
 fn kept(alloc: Global, e: Boxed<NodeExpr>) -> Result<NodeExpr, AllocError>
     ensures { IfOk result (λ x. x ≡ kept e) }
 {
-    let nothing = Boxed::new(alloc, NodeExpr::Constant(Value::Int(0)))?;
+    let nothing = keeping!(e; Boxed::new(alloc, NodeExpr::Constant(Value::Int(0))));
     Ok(NodeExpr::Binary(Op::ShiftLeft, e, nothing))
 }
 

@@ -72,7 +72,7 @@ pub(crate) fn set_kind(
 ) -> Result<NodeKind, AllocError>
     ensures { IfOk result (λ k. k ≡ node.Set (slot_of t kind slot) (converted kind value)) }
 {
-    let value = converted(alloc, kind, value)?;
+    let value = got!(converted(alloc, kind, value));
     let slot = keeping!(value; slot_of(t, kind, slot));
     Ok(NodeKind::Set(slot, value))
 }
@@ -104,7 +104,7 @@ fn write_kind(
         node.Write channel (converted (channel_kind scene.entry.known.model.now channel) value)) }
 {
     let kind = kind_of_channel(scene.known.model, channel);
-    let value = converted(alloc, kind, value)?;
+    let value = got!(converted(alloc, kind, value));
     Ok(NodeKind::Write(channel, value))
 }
 
@@ -178,7 +178,7 @@ pub(crate) fn aim_kind(
     match into {
         BoundTarget::Element(_, index) => {
             let slot = index_slot(kind_in(scene.known.model, index));
-            Ok(NodeKind::Set(slot, lowered(alloc, t, index)?))
+            Ok(NodeKind::Set(slot, got!(lowered(alloc, t, index))))
         }
         _ => Ok(NodeKind::Goto),
     }
@@ -189,7 +189,7 @@ pub(crate) fn current_expr(t: Around, into: &BoundTarget) -> Result<NodeExpr, Al
     ensures { IfOk result (λ e. e ≡ current_expr t into.now) }
 {
     match into {
-        BoundTarget::Local(kind, slot) => Ok(NodeExpr::Slot(slot_of(t, *kind, *slot)?)),
+        BoundTarget::Local(kind, slot) => Ok(NodeExpr::Slot(got!(slot_of(t, *kind, *slot)))),
         BoundTarget::Variable(variable) => Ok(NodeExpr::Variable(*variable)),
         BoundTarget::Signal(channel) => Ok(NodeExpr::Signal(*channel)),
         BoundTarget::Nothing | BoundTarget::Element(_, _) => Ok(NodeExpr::Constant(Value::Int(0))),
@@ -265,7 +265,7 @@ pub(crate) fn wait_for(
 ) -> Result<NodeKind, AllocError>
     ensures { IfOk result (λ k. k ≡ wait_kind (events_of scene.entry.known.model.now change fifo)) }
 {
-    let events = events_for(alloc, scene, change, fifo)?;
+    let events = got!(events_for(alloc, scene, change, fifo));
     Ok(NodeKind::Wait(NodeWait {
         time: None,
         events,
@@ -282,7 +282,7 @@ pub(crate) fn lowered_wait(
 ) -> Result<NodeWait, AllocError>
     ensures { IfOk result (λ w. w ≡ lowered_wait (home_at scene.entry) t wait.now) }
 {
-    let time = lowered_wait_time(alloc, t, &wait.time)?;
+    let time = got!(lowered_wait_time(alloc, t, &wait.time));
     let named = if wait.is_static {
         scene.sensitive.as_slice()
     } else {
@@ -301,7 +301,7 @@ pub(crate) fn item_kind(alloc: Global, t: Around, item: &BoundItem) -> Result<No
     ensures { IfOk result (λ k. k ≡ item_kind t item.now) }
 {
     match item {
-        BoundItem::Value(e) => Ok(NodeKind::PrintValue(lowered(alloc, t, e)?)),
+        BoundItem::Value(e) => Ok(NodeKind::PrintValue(got!(lowered(alloc, t, e)))),
         BoundItem::Text(text) => Ok(NodeKind::PrintText(Items::from_slice(
             alloc,
             text.as_bytes(),
@@ -321,11 +321,11 @@ pub(crate) fn return_kind(
     match value {
         None => Ok(NodeKind::Goto),
         Some(e) => {
-            let value = lowered(alloc, t, e.get())?;
+            let value = got!(lowered(alloc, t, e.get()));
             match t.result {
                 None => Ok(NodeKind::Test(value, t.return_to)),
                 Some(kind) => {
-                    let value = converted(alloc, kind, value)?;
+                    let value = got!(converted(alloc, kind, value));
                     Ok(NodeKind::Set(t.result_slot, value))
                 }
             }

@@ -14,6 +14,16 @@ macro_rules! keeping {
     };
 }
 
+// What was made, or the failure of it: of a `?`, the walk of a large value costs twice as much.
+macro_rules! got {
+    ($made:expr) => {
+        match $made {
+            Ok(found) => found,
+            Err(error) => return Err(error),
+        }
+    };
+}
+
 mod calls;
 mod code;
 mod designs;

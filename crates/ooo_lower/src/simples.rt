@@ -71,7 +71,7 @@ impl<'a> Site<'a> {
             self.entry.spot.around into.now value self.entry.spot.next)
             self.entry.spot.line self.entry.spot.next ∷ []) code.old code.new) }
     {
-        let kind = self.put_kind(into, value)?;
+        let kind = got!(self.put_kind(into, value));
         code.put_uncounted(kind, self.spot.line, self.spot.next)
     }
 
@@ -87,7 +87,7 @@ impl<'a> Site<'a> {
             (uncounted (wait_kind (events_of self.entry.scene.known.model.now change fifo))
             self.entry.spot.line next ∷ []) code.old code.new) }
     {
-        let wait = wait_for(self.alloc, self.scene, change, fifo)?;
+        let wait = got!(wait_for(self.alloc, self.scene, change, fifo));
         code.put_uncounted(wait, self.spot.line, next)
     }
 
@@ -103,8 +103,8 @@ impl<'a> Site<'a> {
             self.entry.spot.next) self.entry.spot.line self.entry.spot.next ∷ [])
             code.old code.new) }
     {
-        let value = lowered(self.alloc, self.spot.around, e)?;
-        let kind = self.put_kind(into, value)?;
+        let value = got!(lowered(self.alloc, self.spot.around, e));
+        let kind = got!(self.put_kind(into, value));
         code.put_counted(kind, self.spot.line, self.spot.next)
     }
 
@@ -122,14 +122,14 @@ impl<'a> Site<'a> {
             code.old code.new) }
     {
         let line = self.spot.line;
-        let at = code.at()?;
-        let put_at = behind(at, 3)?;
+        let at = got!(code.at());
+        let put_at = got!(behind(at, 3));
         let wait_at = at + 1;
         let take_at = at + 2;
         let slot = channel_slot(self.scene, fifo);
-        code.put_counted(NodeKind::TestAvailable(fifo, wait_at), line, take_at)?;
-        self.put_wait(code, Change::Written, fifo, at)?;
-        code.put_uncounted(NodeKind::Take(fifo, slot), line, put_at)?;
+        got!(code.put_counted(NodeKind::TestAvailable(fifo, wait_at), line, take_at));
+        got!(self.put_wait(code, Change::Written, fifo, at));
+        got!(code.put_uncounted(NodeKind::Take(fifo, slot), line, put_at));
         self.put_into(code, into, NodeExpr::Slot(slot))
     }
 
@@ -146,15 +146,15 @@ impl<'a> Site<'a> {
             self.entry.spot.next) code.old code.new) }
     {
         let line = self.spot.line;
-        let at = code.at()?;
-        let put_at = behind(at, 3)?;
+        let at = got!(code.at());
+        let put_at = got!(behind(at, 3));
         let test_at = at + 1;
         let wait_at = at + 2;
         let slot = channel_slot(self.scene, fifo);
-        let set = self.fifo_value(fifo, e)?;
-        code.put_uncounted(set, line, test_at)?;
-        code.put_counted(NodeKind::TestFree(fifo, wait_at), line, put_at)?;
-        self.put_wait(code, Change::Read, fifo, test_at)?;
+        let set = got!(self.fifo_value(fifo, e));
+        got!(code.put_uncounted(set, line, test_at));
+        got!(code.put_counted(NodeKind::TestFree(fifo, wait_at), line, put_at));
+        got!(self.put_wait(code, Change::Read, fifo, test_at));
         let put = NodeKind::Put(fifo, NodeExpr::Slot(slot));
         code.put_uncounted(put, line, self.spot.next)
     }
@@ -164,9 +164,9 @@ impl<'a> Site<'a> {
         ensures { IfOk result (λ k. k ≡
             fifo_value (home_at self.entry.scene) self.entry.spot.around fifo e.now) }
     {
-        let value = lowered(self.alloc, self.spot.around, e)?;
+        let value = got!(lowered(self.alloc, self.spot.around, e));
         let kind = kind_of_channel(self.scene.known.model, fifo);
-        let value = converted(self.alloc, kind, value)?;
+        let value = got!(converted(self.alloc, kind, value));
         Ok(NodeKind::Set(channel_slot(self.scene, fifo), value))
     }
 
@@ -185,7 +185,7 @@ impl<'a> Site<'a> {
             (Puts (counted (aim_kind (home_at self.entry.scene) self.entry.spot.around into.now)
             self.entry.spot.line next ∷ []) code.old code.new) }
     {
-        let aim = aim_kind(self.alloc, self.scene, self.spot.around, into)?;
+        let aim = got!(aim_kind(self.alloc, self.scene, self.spot.around, into));
         code.put_counted(aim, self.spot.line, next)
     }
 
@@ -201,7 +201,7 @@ impl<'a> Site<'a> {
             self.entry.spot.around into.now value next)
             self.entry.spot.line next ∷ []) code.old code.new) }
     {
-        let put = put_at_kind(self.alloc, self.scene, self.spot.around, into, value, next)?;
+        let put = got!(put_at_kind(self.alloc, self.scene, self.spot.around, into, value, next));
         code.put_uncounted(put, self.spot.line, next)
     }
 
@@ -220,18 +220,18 @@ impl<'a> Site<'a> {
             code.old code.new) }
     {
         let line = self.spot.line;
-        let at = code.at()?;
-        let false_at = behind(at, 5)?;
+        let at = got!(code.at());
+        let false_at = got!(behind(at, 5));
         let test_at = at + 1;
         let take_at = at + 2;
         let put_at = at + 3;
         let true_at = at + 4;
         let slot = channel_slot(self.scene, fifo);
-        self.put_aim(code, into, test_at)?;
-        code.put_uncounted(NodeKind::TestAvailable(fifo, false_at), line, take_at)?;
-        code.put_uncounted(NodeKind::Take(fifo, slot), line, put_at)?;
-        self.put_aimed(code, into, NodeExpr::Slot(slot), true_at)?;
-        self.put_truth(code, given, true)?;
+        got!(self.put_aim(code, into, test_at));
+        got!(code.put_uncounted(NodeKind::TestAvailable(fifo, false_at), line, take_at));
+        got!(code.put_uncounted(NodeKind::Take(fifo, slot), line, put_at));
+        got!(self.put_aimed(code, into, NodeExpr::Slot(slot), true_at));
+        got!(self.put_truth(code, given, true));
         self.put_truth(code, given, false)
     }
 
@@ -250,18 +250,18 @@ impl<'a> Site<'a> {
             code.old code.new) }
     {
         let line = self.spot.line;
-        let at = code.at()?;
-        let false_at = behind(at, 4)?;
+        let at = got!(code.at());
+        let false_at = got!(behind(at, 4));
         let test_at = at + 1;
         let put_at = at + 2;
         let true_at = at + 3;
         let slot = channel_slot(self.scene, fifo);
-        let set = self.fifo_value(fifo, e)?;
-        code.put_counted(set, line, test_at)?;
-        code.put_uncounted(NodeKind::TestFree(fifo, false_at), line, put_at)?;
+        let set = got!(self.fifo_value(fifo, e));
+        got!(code.put_counted(set, line, test_at));
+        got!(code.put_uncounted(NodeKind::TestFree(fifo, false_at), line, put_at));
         let put = NodeKind::Put(fifo, NodeExpr::Slot(slot));
-        code.put_uncounted(put, line, true_at)?;
-        self.put_truth(code, given, true)?;
+        got!(code.put_uncounted(put, line, true_at));
+        got!(self.put_truth(code, given, true));
         self.put_truth(code, given, false)
     }
 
@@ -281,18 +281,18 @@ impl<'a> Site<'a> {
             code.old code.new) }
     {
         let model = self.scene.known.model;
-        let at = code.at()?;
-        let store_at = behind(at, 2)?;
+        let at = got!(code.at());
+        let store_at = got!(behind(at, 2));
         let index_at = at + 1;
         let value_slot = value_slot(kind_in(model, e));
         let index_slot = index_slot(kind_in(model, index));
-        let value = lowered(self.alloc, self.spot.around, e)?;
-        code.put_counted(NodeKind::Set(value_slot, value), self.spot.line, index_at)?;
-        let index = lowered(self.alloc, self.spot.around, index)?;
-        code.put_uncounted(NodeKind::Set(index_slot, index), self.spot.line, store_at)?;
-        let value = updated_element(self.alloc, op, variable, index_slot, value_slot)?;
+        let value = got!(lowered(self.alloc, self.spot.around, e));
+        got!(code.put_counted(NodeKind::Set(value_slot, value), self.spot.line, index_at));
+        let index = got!(lowered(self.alloc, self.spot.around, index));
+        got!(code.put_uncounted(NodeKind::Set(index_slot, index), self.spot.line, store_at));
+        let value = got!(updated_element(self.alloc, op, variable, index_slot, value_slot));
         let index = NodeExpr::Slot(index_slot);
-        let store = store_kind(self.alloc, self.scene, variable, Some(index), value)?;
+        let store = got!(store_kind(self.alloc, self.scene, variable, Some(index), value));
         code.put_uncounted(store, self.spot.line, self.spot.next)
     }
 
@@ -300,8 +300,8 @@ impl<'a> Site<'a> {
     fn updated(self, into: &BoundTarget, op: Op, e: &BoundExpr) -> Result<NodeExpr, AllocError>
         ensures { IfOk result (λ x. x ≡ updated_expr self.entry.spot.around into.now op e.now) }
     {
-        let current = current_expr(self.spot.around, into)?;
-        let current = Boxed::new(self.alloc, current)?;
+        let current = got!(current_expr(self.spot.around, into));
+        let current = got!(Boxed::new(self.alloc, current));
         let value = keeping!(current; lowered(self.alloc, self.spot.around, e));
         let value = keeping!(current; Boxed::new(self.alloc, value));
         Ok(NodeExpr::Binary(op, current, value))
@@ -325,8 +325,8 @@ impl<'a> Site<'a> {
                 self.put_element_update(code, *variable, index, op, e)
             }
             _ => {
-                let value = self.updated(into, op, e)?;
-                let kind = self.put_kind(into, value)?;
+                let value = got!(self.updated(into, op, e));
+                let kind = got!(self.put_kind(into, value));
                 code.put_counted(kind, self.spot.line, self.spot.next)
             }
         }
@@ -341,10 +341,10 @@ impl<'a> Site<'a> {
         let mut left = items.len();
         'parts: for item in items {
             left -= 1;
-            let after = code.after()?;
+            let after = got!(code.after());
             let to = begins(left as u64, after, self.spot.next);
-            let kind = item_kind(self.alloc, self.spot.around, item)?;
-            code.put_uncounted(kind, self.spot.line, to)?;
+            let kind = got!(item_kind(self.alloc, self.spot.around, item));
+            got!(code.put_uncounted(kind, self.spot.line, to));
         }
         Ok(())
     }
@@ -360,8 +360,8 @@ fn updated_element(
 ) -> Result<NodeExpr, AllocError>
     ensures { IfOk result (λ e. e ≡ updated_element op variable index value) }
 {
-    let index = Boxed::new(alloc, NodeExpr::Slot(index))?;
-    let element = Boxed::new(alloc, NodeExpr::Element(variable, index))?;
+    let index = got!(Boxed::new(alloc, NodeExpr::Slot(index)));
+    let element = got!(Boxed::new(alloc, NodeExpr::Element(variable, index)));
     let value = keeping!(element; Boxed::new(alloc, NodeExpr::Slot(value)));
     Ok(NodeExpr::Binary(op, element, value))
 }

@@ -25,8 +25,7 @@ pub(crate) fn push<'a>(
         at_spot (part_shape h (callees_within spot.depth h) spot part.entry) spot
         (left_of h tasks.old)) }
 {
-    tasks.push(Task { part, spot })?;
-    Ok(())
+    tasks.push(Task { part, spot })
 }
 
 // Around a loop's body.
@@ -88,21 +87,21 @@ impl<'a> Site<'a> {
         ensures { OnOk result (Divides self.entry at (λ h callees. body_shape h callees body.now)
             tasks.old tasks.new) }
     {
-        let whole = body_size(self.scene, self.spot.depth, body)?;
+        let whole = got!(body_size(self.scene, self.spot.depth, body));
         let mut rest = 0;
         let mut left = body.len();
         'parts: while left > 0 {
             left -= 1;
             let stat = &body[left];
-            let size = stat_size(self.scene, self.spot.depth, stat)?;
-            let here = rest_at(at, whole, rest)?;
+            let size = got!(stat_size(self.scene, self.spot.depth, stat));
+            let here = got!(rest_at(at, whole, rest));
             let to = begins(rest, here, self.spot.next);
             let placed = Spot {
                 next: to,
                 ..self.spot
             };
-            push(tasks, Part::Stat(stat), placed)?;
-            rest = sum(rest, size)?;
+            got!(push(tasks, Part::Stat(stat), placed));
+            rest = got!(sum(rest, size));
         }
         Ok(())
     }
@@ -135,21 +134,21 @@ impl<'a> Site<'a> {
         ensures { OnOk result (Divides self.entry at (λ h callees. lined_shapes h callees xs.now)
             tasks.old tasks.new) }
     {
-        let whole = lineds_size(self.scene, self.spot.depth, xs)?;
+        let whole = got!(lineds_size(self.scene, self.spot.depth, xs));
         let mut rest = 0;
         let mut left = xs.len();
         'parts: while left > 0 {
             left -= 1;
             let x = &xs[left];
-            let size = lined_size(self.scene, self.spot.depth, x)?;
-            let here = rest_at(at, whole, rest)?;
+            let size = got!(lined_size(self.scene, self.spot.depth, x));
+            let here = got!(rest_at(at, whole, rest));
             let to = begins(rest, here, self.spot.next);
             let placed = Spot {
                 next: to,
                 ..self.spot
             };
-            push(tasks, Part::Simple(x), placed)?;
-            rest = sum(rest, size)?;
+            got!(push(tasks, Part::Simple(x), placed));
+            rest = got!(sum(rest, size));
         }
         Ok(())
     }
@@ -168,14 +167,14 @@ impl<'a> Site<'a> {
             if_shape self.entry.spot.line test.now (shape_of h callees yes.now)
             (else_shape h callees no.now)) tasks.old tasks.new) }
     {
-        let yes_at = behind(at, 1)?;
-        let yes_size = stat_size(self.scene, self.spot.depth, yes)?;
-        let no_at = past(yes_at, yes_size)?;
-        let no_size = else_size(self.scene, self.spot.depth, no)?;
+        let yes_at = got!(behind(at, 1));
+        let yes_size = got!(stat_size(self.scene, self.spot.depth, yes));
+        let no_at = got!(past(yes_at, yes_size));
+        let no_size = got!(else_size(self.scene, self.spot.depth, no));
         let yes_to = begins(yes_size, yes_at, self.spot.next);
         let no_to = begins(no_size, no_at, self.spot.next);
-        push_else(tasks, self.spot, no)?;
-        push(tasks, Part::Stat(yes), self.spot)?;
+        got!(push_else(tasks, self.spot, no));
+        got!(push(tasks, Part::Stat(yes), self.spot));
         push(tasks, Part::Test(Test::Of(test), no_to, yes_to), self.spot)
     }
 
@@ -192,8 +191,8 @@ impl<'a> Site<'a> {
             do_shape self.entry.spot.line test.now (shape_of h callees body.now))
             tasks.old tasks.new) }
     {
-        let size = stat_size(self.scene, self.spot.depth, body)?;
-        let test_at = past(at, size)?;
+        let size = got!(stat_size(self.scene, self.spot.depth, body));
+        let test_at = got!(past(at, size));
         let t = inside(self.spot.around, self.spot.next, test_at);
         let within = Spot {
             around: t,
@@ -201,7 +200,7 @@ impl<'a> Site<'a> {
             ..self.spot
         };
         let test = Part::Test(Test::Of(test), self.spot.next, at);
-        push(tasks, test, self.spot)?;
+        got!(push(tasks, test, self.spot));
         push(tasks, Part::Stat(body), within)
     }
 
@@ -219,8 +218,8 @@ impl<'a> Site<'a> {
             turn_shape self.entry.spot.line (tested test.entry) again (shape_of h callees body.now))
             tasks.old tasks.new) }
     {
-        let body_at = behind(at, 1)?;
-        let size = stat_size(self.scene, self.spot.depth, body)?;
+        let body_at = got!(behind(at, 1));
+        let size = got!(stat_size(self.scene, self.spot.depth, body));
         let yes = begins(size, body_at, again);
         let t = inside(self.spot.around, self.spot.next, again);
         let within = Spot {
@@ -228,7 +227,7 @@ impl<'a> Site<'a> {
             next: again,
             ..self.spot
         };
-        push(tasks, Part::Stat(body), within)?;
+        got!(push(tasks, Part::Stat(body), within));
         push(tasks, Part::Test(test, self.spot.next, yes), self.spot)
     }
 
@@ -263,16 +262,16 @@ impl<'a> Site<'a> {
             (Some (lined_shape h callees after.now)) (shape_of h callees body.now))
             tasks.old tasks.new) }
     {
-        let step_at = behind(at, 1)?;
-        let size = lined_size(self.scene, self.spot.depth, after)?;
-        let test_at = past(step_at, size)?;
+        let step_at = got!(behind(at, 1));
+        let size = got!(lined_size(self.scene, self.spot.depth, after));
+        let test_at = got!(past(step_at, size));
         let again = begins(size, step_at, test_at);
         let step = Spot {
             next: test_at,
             ..self.spot
         };
-        self.push_turn(tasks, test_at, test, again, body)?;
-        push(tasks, Part::Simple(after), step)?;
+        got!(self.push_turn(tasks, test_at, test, again, body));
+        got!(push(tasks, Part::Simple(after), step));
         push(tasks, Part::Pass, step)
     }
 
@@ -307,13 +306,13 @@ impl<'a> Site<'a> {
             then (lined_shapes h callees begin.now)
             (looped_shape h callees self.entry.spot.line looped.entry)) tasks.old tasks.new) }
     {
-        let size = lineds_size(self.scene, self.spot.depth, begin)?;
-        let loop_at = past(at, size)?;
+        let size = got!(lineds_size(self.scene, self.spot.depth, begin));
+        let loop_at = got!(past(at, size));
         let first = Spot {
             next: loop_at,
             ..self.spot
         };
-        self.split_loop(tasks, loop_at, looped)?;
+        got!(self.split_loop(tasks, loop_at, looped));
         push(tasks, Part::Simples(begin), first)
     }
 }

@@ -87,9 +87,9 @@ impl<'a> Site<'a> {
             (EmitsAt self.entry.spot (print_shape self.entry.spot.line items.now)
             code.old code.new) }
     {
-        let after = code.after()?;
+        let after = got!(code.after());
         let to = begins(items.len() as u64, after, self.spot.next);
-        code.put_counted(NodeKind::Goto, self.spot.line, to)?;
+        got!(code.put_counted(NodeKind::Goto, self.spot.line, to));
         self.put_items(code, items)
     }
 
@@ -100,16 +100,16 @@ impl<'a> Site<'a> {
     {
         match simple {
             BoundSimple::Notify(event, time) => {
-                let time = lowered_time(self.alloc, self.spot.around, time)?;
+                let time = got!(lowered_time(self.alloc, self.spot.around, time));
                 Ok(NodeKind::Notify(*event, time))
             }
             BoundSimple::Cancel(event) => Ok(NodeKind::Cancel(*event)),
             BoundSimple::Wait(wait) => {
-                let wait = lowered_wait(self.alloc, self.scene, self.spot.around, wait)?;
+                let wait = got!(lowered_wait(self.alloc, self.scene, self.spot.around, wait));
                 Ok(NodeKind::Wait(wait))
             }
             BoundSimple::NextTrigger(wait) => {
-                let wait = lowered_wait(self.alloc, self.scene, self.spot.around, wait)?;
+                let wait = got!(lowered_wait(self.alloc, self.scene, self.spot.around, wait));
                 Ok(NodeKind::Trigger(wait))
             }
             _ => Ok(NodeKind::Stop),
@@ -122,7 +122,7 @@ impl<'a> Site<'a> {
             (one_kind (home_at self.entry.scene) self.entry.spot.around simple.now)
             self.entry.spot.line self.entry.spot.next ∷ []) code.old code.new) }
     {
-        let kind = self.one_kind(simple)?;
+        let kind = got!(self.one_kind(simple));
         code.put_counted(kind, self.spot.line, self.spot.next)
     }
 
@@ -132,9 +132,8 @@ impl<'a> Site<'a> {
             (EmitsAt self.entry.spot (test_shape self.entry.spot.line (tested test.entry) no yes)
             code.old code.new) }
     {
-        let value = tested(self.alloc, self.spot.around, test)?;
-        code.put_counted(NodeKind::Test(value, no), self.spot.line, yes)?;
-        Ok(())
+        let value = got!(tested(self.alloc, self.spot.around, test));
+        code.put_counted(NodeKind::Test(value, no), self.spot.line, yes)
     }
 
     // A value that isn't what a call gives is put into a target.
@@ -150,23 +149,11 @@ impl<'a> Site<'a> {
             right.now) code.old code.new) }
     {
         match right {
-            BoundRight::Value(e) => {
-                self.put_value(code, into, e)?;
-                Ok(())
-            }
+            BoundRight::Value(e) => self.put_value(code, into, e),
             BoundRight::Call(_, _) => Ok(()),
-            BoundRight::Read(fifo) => {
-                self.put_read(code, into, *fifo)?;
-                Ok(())
-            }
-            BoundRight::NbRead(fifo, given) => {
-                self.put_nb_read(code, into, *fifo, given)?;
-                Ok(())
-            }
-            BoundRight::NbWrite(fifo, e) => {
-                self.put_nb_write(code, into, *fifo, e)?;
-                Ok(())
-            }
+            BoundRight::Read(fifo) => self.put_read(code, into, *fifo),
+            BoundRight::NbRead(fifo, given) => self.put_nb_read(code, into, *fifo, given),
+            BoundRight::NbWrite(fifo, e) => self.put_nb_write(code, into, *fifo, e),
         }
     }
 
@@ -178,26 +165,11 @@ impl<'a> Site<'a> {
             code.old code.new) }
     {
         match simple {
-            BoundSimple::Assign(into, right) => {
-                self.emit_right(code, into, right)?;
-                Ok(())
-            }
-            BoundSimple::Update(into, op, e) => {
-                self.put_update(code, into, *op, e)?;
-                Ok(())
-            }
-            BoundSimple::Write(fifo, e) => {
-                self.put_write(code, *fifo, e)?;
-                Ok(())
-            }
-            BoundSimple::Print(items) => {
-                self.emit_print(code, items.as_slice())?;
-                Ok(())
-            }
-            simple => {
-                self.emit_one(code, simple)?;
-                Ok(())
-            }
+            BoundSimple::Assign(into, right) => self.emit_right(code, into, right),
+            BoundSimple::Update(into, op, e) => self.put_update(code, into, *op, e),
+            BoundSimple::Write(fifo, e) => self.put_write(code, *fifo, e),
+            BoundSimple::Print(items) => self.emit_print(code, items.as_slice()),
+            simple => self.emit_one(code, simple),
         }
     }
 
@@ -212,12 +184,12 @@ impl<'a> Site<'a> {
         requires { IsOutlineOf outline self.scene.known.model.now function.now }
         ensures { IfOk result (λ p. IsPlaced self.entry code.now function.now args.now p) }
     {
-        let free = code.free()?;
-        let first = code.after()?;
-        let whole = nodes_within(outline.extent, self.spot.depth)?;
-        let within = less(whole, 2)?;
-        let size = sum(within, given(function, args))?;
-        let leave = past(first, size)?;
+        let free = got!(code.free());
+        let first = got!(code.after());
+        let whole = got!(nodes_within(outline.extent, self.spot.depth));
+        let within = got!(less(whole, 2));
+        let size = got!(sum(within, given(function, args)));
+        let leave = got!(past(first, size));
         Ok(CallPlaces { free, first, leave })
     }
 
@@ -238,15 +210,15 @@ impl<'a> Site<'a> {
               body = body_shape h callees function.now.body;
             }))) tasks.old tasks.new code.old code.new) }
     {
-        let places = self.call_places(code, function, outline, call.args)?;
-        let u = frame_of(function, outline.widths, places.free, places.leave)?;
+        let places = got!(self.call_places(code, function, outline, call.args));
+        let u = got!(frame_of(function, outline.widths, places.free, places.leave));
         let params = function.params.as_slice();
-        code.put_counted(NodeKind::Goto, self.spot.line, places.first)?;
-        push_kinds(code, function, outline.widths)?;
-        put_zeros(code, self.spot.line, places.free)?;
-        put_arguments(self.alloc, code, self.spot, u, params, call.args)?;
+        got!(code.put_counted(NodeKind::Goto, self.spot.line, places.first));
+        got!(push_kinds(code, function, outline.widths));
+        got!(put_zeros(code, self.spot.line, places.free));
+        got!(put_arguments(self.alloc, code, self.spot, u, params, call.args));
         let leave = Part::Leave(call.into, function.result, places.free);
-        push(tasks, leave, self.spot)?;
+        got!(push(tasks, leave, self.spot));
         let inner = Spot {
             around: u,
             next: places.leave,
@@ -308,8 +280,7 @@ impl<'a> Site<'a> {
         ensures { OnOk result
             (EmitsAt self.entry.spot (pass_shape self.entry.spot.line) code.old code.new) }
     {
-        code.put_uncounted(NodeKind::Goto, self.spot.line, self.spot.next)?;
-        Ok(())
+        code.put_uncounted(NodeKind::Goto, self.spot.line, self.spot.next)
     }
 
     // The way of what a call gives.
@@ -324,9 +295,8 @@ impl<'a> Site<'a> {
             (leave_shape (home_at self.entry.scene) self.entry.spot.line into.now gives free)
             code.old code.new) }
     {
-        let kind = leave_kind(self.alloc, self.scene, self.spot, into, gives, free)?;
-        code.put_uncounted(kind, self.spot.line, self.spot.next)?;
-        Ok(())
+        let kind = got!(leave_kind(self.alloc, self.scene, self.spot, into, gives, free));
+        code.put_uncounted(kind, self.spot.line, self.spot.next)
     }
 
     // A jump out of a loop or its turn.
@@ -334,8 +304,7 @@ impl<'a> Site<'a> {
         ensures { OnOk result
             (EmitsAt self.entry.spot (one_node (counted kind.Goto line to)) code.old code.new) }
     {
-        code.put_counted(NodeKind::Goto, line, to)?;
-        Ok(())
+        code.put_counted(NodeKind::Goto, line, to)
     }
 
     // A `return`.
@@ -349,9 +318,8 @@ impl<'a> Site<'a> {
             (one_node (counted (return_kind self.entry.spot.around value.now) line
             self.entry.spot.around.return_to)) code.old code.new) }
     {
-        let kind = return_kind(self.alloc, self.spot.around, value)?;
-        code.put_counted(kind, line, self.spot.around.return_to)?;
-        Ok(())
+        let kind = got!(return_kind(self.alloc, self.spot.around, value));
+        code.put_counted(kind, line, self.spot.around.return_to)
     }
 
     // An `if`.
@@ -369,7 +337,7 @@ impl<'a> Site<'a> {
             if_shape line test.now (shape_of h callees yes.now) (else_shape h callees no.now))
             tasks.old tasks.new code.now code.now) }
     {
-        let at = code.at()?;
+        let at = got!(code.at());
         let spot = Spot { line, ..self.spot };
         Site { spot, ..self }.split_if(tasks, at, test, yes, no)
     }
@@ -388,7 +356,7 @@ impl<'a> Site<'a> {
             loop_shape line test.now None (shape_of h callees body.now))
             tasks.old tasks.new code.now code.now) }
     {
-        let at = code.at()?;
+        let at = got!(code.at());
         let spot = Spot { line, ..self.spot };
         Site { spot, ..self }.split_plain_loop(tasks, at, Test::Of(test), body)
     }
@@ -407,7 +375,7 @@ impl<'a> Site<'a> {
             do_shape line test.now (shape_of h callees body.now))
             tasks.old tasks.new code.now code.now) }
     {
-        let at = code.at()?;
+        let at = got!(code.at());
         let spot = Spot { line, ..self.spot };
         Site { spot, ..self }.split_do(tasks, at, body, test)
     }
@@ -426,7 +394,7 @@ impl<'a> Site<'a> {
             then (lined_shapes h callees begin.now) (looped_shape h callees line looped.entry))
             tasks.old tasks.new code.now code.now) }
     {
-        let at = code.at()?;
+        let at = got!(code.at());
         let spot = Spot { line, ..self.spot };
         Site { spot, ..self }.split_for(tasks, at, begin, looped)
     }
@@ -479,7 +447,7 @@ impl<'a> Site<'a> {
         ensures { OnOk result (Takes self.entry (λ h callees. body_shape h callees body.now)
             tasks.old tasks.new code.now code.now) }
     {
-        let at = code.at()?;
+        let at = got!(code.at());
         self.split_body(tasks, at, bare(body))
     }
 
@@ -494,7 +462,7 @@ impl<'a> Site<'a> {
         ensures { OnOk result (Takes self.entry (λ h callees. lined_shapes h callees xs.now)
             tasks.old tasks.new code.now code.now) }
     {
-        let at = code.at()?;
+        let at = got!(code.at());
         self.split_simples(tasks, at, xs)
     }
 
@@ -534,13 +502,16 @@ pub(crate) fn emit_stats<'a>(
         code.old code.new) }
 {
     let mut tasks = Items::new(site.alloc);
-    push(&mut tasks, Part::Body(body), site.spot)?;
+    keeping!(tasks; push(&mut tasks, Part::Body(body), site.spot));
     'steps: for _ in 0..u64::MAX {
         match tasks.pop() {
             None => return Ok(()),
             Some(task) => {
-                let spot = task.spot;
-                Site { spot, ..site }.take(code, &mut tasks, task.part)?
+                let site = Site {
+                    spot: task.spot,
+                    ..site
+                };
+                keeping!(tasks; site.take(code, &mut tasks, task.part))
             }
         }
     }

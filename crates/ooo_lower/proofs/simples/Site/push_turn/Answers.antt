@@ -10,5 +10,5 @@ returns c =
     let home = home_at c.args.self.scene in
     let callees = callees_within c.args.self.spot.depth home in
     on_ok_weaker c.push-2.result
-    (turn_split c.args.self.spot.line (tested c.args.test) c.args.again (shape_of home callees c.args.body.now) c.args.self.spot.around _ _ c.args.self.spot.next c.args.at _ _ (left_of home c.args.tasks.now) (left_of home c.push.new.tasks) (left_of home c.push-2.new.tasks) c.in_ok-body_at.ensures c.in_ok-size.ensures c.begins-yes.ensures c.inside-t.ensures (c.in_ok-push.ensures home))
+    (turn_split c.args.self.spot.line (tested c.args.test) c.args.again (shape_of home callees c.args.body.now) c.args.self.spot.around _ _ c.args.self.spot.next c.args.at _ _ (left_of home c.args.tasks.now) (left_of home c.push.new.tasks) (left_of home c.push-2.new.tasks) c.in-Ok.ensures c.in-Ok-stat_size.ensures c.begins-yes.ensures c.inside-t.ensures (c.in-Ok-push.ensures home))
     (c.push-2.ensures home)

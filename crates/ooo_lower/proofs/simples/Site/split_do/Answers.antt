@@ -10,5 +10,5 @@ returns c =
     let home = home_at c.args.self.scene in
     let callees = callees_within c.args.self.spot.depth home in
     on_ok_weaker c.push-2.result
-    (do_split c.args.self.spot.line c.args.test.now (shape_of home callees c.args.body.now) c.args.self.spot.around _ _ c.args.self.spot.next c.args.at _ (left_of home c.args.tasks.now) (left_of home c.push.new.tasks) (left_of home c.push-2.new.tasks) c.in_ok-size.ensures c.in_ok-test_at.ensures c.inside-t.ensures (c.in_ok-push.ensures home))
+    (do_split c.args.self.spot.line c.args.test.now (shape_of home callees c.args.body.now) c.args.self.spot.around _ _ c.args.self.spot.next c.args.at _ (left_of home c.args.tasks.now) (left_of home c.push.new.tasks) (left_of home c.push-2.new.tasks) c.in-Ok.ensures c.in-Ok-past.ensures c.inside-t.ensures (c.in-Ok-push.ensures home))
     (c.push-2.ensures home)

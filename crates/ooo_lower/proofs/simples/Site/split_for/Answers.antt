@@ -11,5 +11,5 @@ returns c =
     let home = home_at c.args.self.scene in
     let callees = callees_within c.args.self.spot.depth home in
     on_ok_weaker c.push.result
-    (for_split (lined_shapes home callees c.args.begin.now) (looped_shape home callees c.args.self.spot.line c.args.looped) c.args.self.spot.around c.in_ok-loop_at.loop_at c.args.self.spot.next c.args.at _ (left_of home c.args.tasks.now) (left_of home c.split_loop.new.tasks) (left_of home c.push.new.tasks) (omega arith) c.in_ok-size.ensures c.in_ok-loop_at.ensures c.in_ok-split_loop.ensures)
+    (for_split (lined_shapes home callees c.args.begin.now) (looped_shape home callees c.args.self.spot.line c.args.looped) c.args.self.spot.around c.in-Ok-past.found c.args.self.spot.next c.args.at _ (left_of home c.args.tasks.now) (left_of home c.split_loop.new.tasks) (left_of home c.push.new.tasks) (omega arith) c.in-Ok.ensures c.in-Ok-past.ensures c.in-Ok-split_loop.ensures)
     (c.push.ensures home)

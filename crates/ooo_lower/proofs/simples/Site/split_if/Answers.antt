@@ -11,5 +11,5 @@ returns c =
     let home = home_at c.args.self.scene in
     let callees = callees_within c.args.self.spot.depth home in
     on_ok_weaker c.push-2.result
-    (if_split c.args.self.spot.line c.args.test.now (shape_of home callees c.args.yes.now) (else_shape home callees c.args.no.now) c.args.self.spot.around _ _ c.args.self.spot.next c.args.at _ _ _ _ (left_of home c.args.tasks.now) (left_of home c.push_else.new.tasks) (left_of home c.push.new.tasks) (left_of home c.push-2.new.tasks) c.in_ok-yes_at.ensures c.in_ok-yes_size.ensures c.in_ok-no_at.ensures c.in_ok-no_size.ensures c.begins-yes_to.ensures c.begins-no_to.ensures (λ p. c.in_ok-push_else.ensures home p) (c.in_ok-push.ensures home))
+    (if_split c.args.self.spot.line c.args.test.now (shape_of home callees c.args.yes.now) (else_shape home callees c.args.no.now) c.args.self.spot.around _ _ c.args.self.spot.next c.args.at _ _ _ _ (left_of home c.args.tasks.now) (left_of home c.push_else.new.tasks) (left_of home c.push.new.tasks) (left_of home c.push-2.new.tasks) c.in-Ok.ensures c.in-Ok-stat_size.ensures c.in-Ok-past.ensures c.in-Ok-else_size.ensures c.begins-yes_to.ensures c.begins-no_to.ensures (λ p. c.in-Ok-push_else.ensures home p) (c.in-Ok-push.ensures home))
     (c.push-2.ensures home)

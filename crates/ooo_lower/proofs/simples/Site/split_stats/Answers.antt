@@ -14,11 +14,11 @@ pub parts-preserved : goal.parts-preserved
 parts-preserved c =
     let home = home_at c.args.self.scene in (
       omega (arith, c.parts.invariant.0),
-      body_more home (callees_within c.args.self.spot.depth home) c.args.self.spot.around _ _ c.args.self.spot.next c.args.at c.in_ok-whole.whole c.parts.rest _ _ c.parts.left (c.parts.left - 1) c.args.body.now _ (left_of home c.args.tasks.now) (left_of home c.parts.tasks) (left_of home c.push.new.tasks)
-          c.parts-test.true refl (omega (arith, c.parts.invariant.0, c.parts-test.true)) c.index-body-left.is c.in_ok-size.ensures c.in_ok-rest.ensures c.in_ok-here.ensures c.begins-to.ensures (c.in_ok-push.ensures home) c.parts.invariant.1,
+      body_more home (callees_within c.args.self.spot.depth home) c.args.self.spot.around _ _ c.args.self.spot.next c.args.at c.in-Ok.found c.parts.rest _ _ c.parts.left (c.parts.left - 1) c.args.body.now _ (left_of home c.args.tasks.now) (left_of home c.parts.tasks) (left_of home c.push.new.tasks)
+          c.parts-test.true refl (omega (arith, c.parts.invariant.0, c.parts-test.true)) c.index-body-left.is c.in-Ok-stat_size.ensures c.in-Ok-sum.ensures c.in-Ok-rest_at.ensures c.begins-to.ensures (c.in-Ok-push.ensures home) c.parts.invariant.1,
     )
 
 pub returns : goal.returns
 returns c =
     let home = home_at c.args.self.scene in
-    body_done home (callees_within c.args.self.spot.depth home) c.args.self.spot.around c.args.self.spot.next c.args.at c.in_ok-whole.whole c.parts.rest c.parts.left c.args.body.now (left_of home c.args.tasks.now) (left_of home c.parts.tasks) c.parts-test.false c.in_ok-whole.ensures c.parts.invariant.1
+    body_done home (callees_within c.args.self.spot.depth home) c.args.self.spot.around c.args.self.spot.next c.args.at c.in-Ok.found c.parts.rest c.parts.left c.args.body.now (left_of home c.args.tasks.now) (left_of home c.parts.tasks) c.parts-test.false c.in-Ok.ensures c.parts.invariant.1

@@ -11,11 +11,11 @@ returns c =
     let s = c.args.self.spot in
     let callees = callees_within s.depth home in
     let same = c.bare.ensures.shape_is home callees in
-    let at = c.in_ok-at.at in
+    let at = c.in-Ok.found in
     let old = left_of home c.args.tasks.now in
     let new = left_of home c.split_body.new.tasks in
     on_ok_weaker c.split_body.result
-    (λ split. goes_split _ new at c.args.code.now c.in_ok-at.ensures
+    (λ split. goes_split _ new at c.args.code.now c.in-Ok.ensures
     (splits_on _ _ new at
     (splits_first (body_shape home callees c.args.body.now) (body_shape home callees c.bare.result.now) s.around s.around s.next s.next old at (λ free. same.nodes_are s.around free at s.next) same.slots_are same.size_is)
     split))

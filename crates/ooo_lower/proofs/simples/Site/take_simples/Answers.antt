@@ -7,4 +7,4 @@ use Rattle.ooo_lower.proofs.simples.Site.take_simples.Goals as goal
 pub returns : goal.returns
 returns c =
     let home = home_at c.args.self.scene in
-    on_ok_weaker c.split_simples.result (goes_split _ (left_of home c.split_simples.new.tasks) c.in_ok-at.at c.args.code.now c.in_ok-at.ensures) c.split_simples.ensures
+    on_ok_weaker c.split_simples.result (goes_split _ (left_of home c.split_simples.new.tasks) c.in-Ok.found c.args.code.now c.in-Ok.ensures) c.split_simples.ensures
