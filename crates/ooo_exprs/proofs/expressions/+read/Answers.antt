@@ -1,5 +1,4 @@
 use Rattle.std.proofs.Common.{[], ◌∷◌, ◌++◌, ◌∙◌, arith, rules, suc, ◌+◌, ◌-◌, ◌≡◌, List, length, Err, refl, sym, ap}
-use Rattle.std.proofs.lemmas.Grind.{common_steps}
 use Rattle.ooo_syntax.specs.declared.terminal.Terminal.TheVariants as terminal
 use Rattle.ooo_syntax.specs.declared.expr.Expr.{Expr}
 use Rattle.ooo_syntax.specs.declared.expr.Expr.TheVariants as expr
