@@ -123,7 +123,7 @@ pub fn event(
         ≡ noted notes.old (event_of in_sensitive event.now scopes.now).notes) }
 {
     let call = copy_option(alloc, &event.call)?;
-    let name = resolve(alloc, scopes, &event.name)?;
+    let name = keeping!(call; resolve(alloc, scopes, &event.name));
     notes.event(in_sensitive, &name, &event.call);
     let form = event_meant(in_sensitive, name.denotes.thing, &event.call);
     Ok(CheckedEvent { name, call, form })
@@ -147,7 +147,8 @@ pub fn events(
 {
     let mut all = Items::new(alloc);
     'parts: for e in es.as_slice() {
-        all.push(event(alloc, in_sensitive, e, scopes, notes)?)?;
+        let made = keeping!(all; event(alloc, in_sensitive, e, scopes, notes));
+        keeping!(all; all.push(made));
     }
     Ok(all)
 }

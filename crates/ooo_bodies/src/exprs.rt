@@ -124,7 +124,8 @@ fn indexed(
     let thing = scopes.denotes(word.name.as_bytes()).thing;
     notes.indexed(thing, word.position);
     let tree = boxed(alloc, index, scopes, notes)?;
-    Ok(CheckedExpr::Index(thing.value_kind(), resolve(alloc, scopes, word)?, tree))
+    let name = keeping!(tree; resolve(alloc, scopes, word));
+    Ok(CheckedExpr::Index(thing.value_kind(), name, tree))
 }
 
 // A call of a function in an expression.
@@ -147,7 +148,7 @@ fn call(
     let denotes = scopes.denotes(word.name.as_bytes());
     notes.call(place, denotes, args.len(), word.position)?;
     let trees = exprs(alloc, args, scopes, notes)?;
-    let name = resolve(alloc, scopes, word)?;
+    let name = keeping!(trees; resolve(alloc, scopes, word));
     Ok(CheckedExpr::Call(denotes.thing.result_kind(), name, trees))
 }
 
@@ -173,8 +174,8 @@ fn member(
     let count = argument_count(arg);
     notes.member(call, thing, method, count)?;
     let tree = argument(alloc, method, arg, scopes, notes)?;
-    let after = copy_word(alloc, call.after)?;
-    let name = resolve(alloc, scopes, call.word)?;
+    let after = keeping!(tree; copy_word(alloc, call.after));
+    let name = keeping!(tree, after; resolve(alloc, scopes, call.word));
     Ok(CheckedExpr::Member(method.kind(thing), name, after, method, tree))
 }
 
@@ -231,7 +232,8 @@ pub fn exprs(
 {
     let mut all = Items::new(alloc);
     'args: for e in es.as_slice() {
-        all.push(expr(alloc, e, scopes, notes)?)?;
+        let made = keeping!(all; expr(alloc, e, scopes, notes));
+        keeping!(all; all.push(made));
     }
     Ok(all)
 }

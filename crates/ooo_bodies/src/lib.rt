@@ -20,6 +20,16 @@ macro_rules! keeping {
     };
 }
 
+// What was made: of a `?`, the walk of a large value costs twice as much.
+macro_rules! got {
+    ($made:expr) => {
+        match $made {
+            Ok(made) => made,
+            Err(error) => return Err(error),
+        }
+    };
+}
+
 pub mod copies;
 pub mod events;
 pub mod exprs;

@@ -89,7 +89,7 @@ fn target(
     let passes = thing.is_assignable(target.index.is_some(), is_compound);
     notes.name(thing, passes, target.name.position);
     let name = resolve(alloc, scopes, &target.name)?;
-    let index = option_expr(alloc, &target.index, scopes, notes)?;
+    let index = keeping!(name; option_expr(alloc, &target.index, scopes, notes));
     Ok(CheckedTarget { name, index })
 }
 
@@ -171,7 +171,8 @@ fn items(
 {
     let mut all = Items::new(alloc);
     'parts: for e in is.as_slice() {
-        all.push(item(alloc, e, scopes, notes)?)?;
+        let made = keeping!(all; item(alloc, e, scopes, notes));
+        keeping!(all; all.push(made));
     }
     Ok(all)
 }
@@ -390,11 +391,11 @@ pub fn simple_stat(
     match statement {
         Simple::Assign(to, op, e) => assign(alloc, to, *op, e, scopes, notes),
         Simple::StepAfter(to, op) => {
-            let to = target(alloc, true, to, scopes, notes)?;
+            let to = got!(target(alloc, true, to, scopes, notes));
             Ok(CheckedSimple::StepAfter(to, *op))
         }
         Simple::StepBefore(at, op, to) => {
-            let to = target(alloc, true, to, scopes, notes)?;
+            let to = got!(target(alloc, true, to, scopes, notes));
             Ok(CheckedSimple::StepBefore(*at, *op, to))
         }
         Simple::Call(word, args) => call(alloc, word, args, scopes, notes),
@@ -422,6 +423,6 @@ pub(crate) fn boxed_simple(
     ensures notes { OnOk result (notes.new
         ≡ noted notes.old (simple_of statement.now scopes.now).notes) }
 {
-    let tree = simple_stat(alloc, statement, scopes, notes)?;
+    let tree = got!(simple_stat(alloc, statement, scopes, notes));
     Boxed::new(alloc, tree)
 }

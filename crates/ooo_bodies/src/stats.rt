@@ -106,7 +106,8 @@ fn declarators(
 {
     let mut all = Items::new(alloc);
     'parts: for e in names.as_slice() {
-        all.push(declarator(alloc, kind, context, e, scopes, notes)?)?;
+        let made = keeping!(all; declarator(alloc, kind, context, e, scopes, notes));
+        keeping!(all; all.push(made));
     }
     Ok(all)
 }
@@ -208,7 +209,7 @@ fn boxed_start(
         ≡ noted notes.old (start_of context begins.now scopes.old).notes) }
     ensures outer { OnOk result (left scopes.new ≡ left scopes.old) }
 {
-    let tree = start(alloc, context, begins, scopes, notes)?;
+    let tree = got!(start(alloc, context, begins, scopes, notes));
     Boxed::new(alloc, tree)
 }
 
@@ -427,7 +428,8 @@ pub fn stats(
 {
     let mut all = room(alloc, body.len())?;
     'parts: for e in body.as_slice() {
-        all.push(stat(alloc, context, e, scopes, notes)?)?;
+        let made = keeping!(all; stat(alloc, context, e, scopes, notes));
+        keeping!(all; all.push(made));
     }
     Ok(all)
 }

@@ -143,14 +143,14 @@ pub exprs-args-2-preserved : goal.exprs-args-2-preserved
 exprs-args-2-preserved t c =
     let xs : List Expr = c.as_slice-e-items.result.now in record {
       trees = trees_step (λ e. expr_of e c.args.scopes.now) c.args-2.all c.push.new.self xs c.args-2.e-index c.e-item.result
-          c.in_ok-expr.field-0 c.args-2-test.true c.e-item.is c.in_ok-expr.ensures.tree c.in_ok-push.ensures.ok c.args-2.invariant.trees;
+          c.in-Ok.made c.args-2-test.true c.e-item.is c.in-Ok.ensures.tree c.in-Ok-push.ensures.ok c.args-2.invariant.trees;
       notes = notes_step (λ e. expr_of e c.args.scopes.now) c.args.notes.now c.args-2.notes c.expr.new.notes xs c.args-2.e-index
-          c.e-item.result c.args-2-test.true c.e-item.is c.in_ok-expr.ensures.notes c.args-2.invariant.notes;
+          c.e-item.result c.args-2-test.true c.e-item.is c.in-Ok.ensures.notes c.args-2.invariant.notes;
     }
 
 pub indexed-returns-clause-tree : goal.indexed-returns-clause-tree
 indexed-returns-clause-tree t c =
-    rw (c.value_kind.ensures, c.denotes-thing.ensures, c.as_bytes.ensures, c.in_ok-resolve.ensures, c.in_ok-tree.ensures.tree) refl
+    rw (c.value_kind.ensures, c.denotes-thing.ensures, c.as_bytes.ensures, c.in-Ok.ensures, c.in_ok-tree.ensures.tree) refl
 
 pub indexed-returns-clause-notes : goal.indexed-returns-clause-notes
 indexed-returns-clause-notes t c =
@@ -161,7 +161,7 @@ indexed-returns-clause-notes t c =
 
 pub call-returns-clause-tree : goal.call-returns-clause-tree
 call-returns-clause-tree t c =
-    rw (c.result_kind.ensures, c.denotes-denotes.ensures, c.as_bytes.ensures, c.in_ok-name.ensures, c.in_ok-trees.ensures.trees) refl
+    rw (c.result_kind.ensures, c.denotes-denotes.ensures, c.as_bytes.ensures, c.in-Ok.ensures, c.in_ok-trees.ensures.trees) refl
 
 pub call-returns-clause-notes : goal.call-returns-clause-notes
 call-returns-clause-notes t c =
@@ -183,8 +183,8 @@ member-returns-clause-tree t c =
       c.as_bytes-2.ensures,
       c.denotes-thing.ensures,
       c.as_bytes.ensures,
-      c.in_ok-name.ensures,
-      c.in_ok-after.ensures,
+      c.in-Ok-resolve.ensures,
+      c.in-Ok.ensures,
       c.in_ok-tree.ensures.tree,
     ) refl
 

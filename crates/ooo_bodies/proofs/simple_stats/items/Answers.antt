@@ -8,8 +8,8 @@ pub parts-preserved : goal.parts-preserved
 parts-preserved c =
     let xs : List PrintItem = c.as_slice-e-items.result.now in record {
       trees = trees_step (λ e. item_of e c.args.scopes.now) c.parts.all c.push.new.self xs c.parts.e-index
-          c.e-item.result c.in_ok-item.field-0 c.parts-test.true c.e-item.is c.in_ok-item.ensures.tree c.in_ok-push.ensures.ok
+          c.e-item.result c.in-Ok.made c.parts-test.true c.e-item.is c.in-Ok.ensures.tree c.in-Ok-push.ensures.ok
           c.parts.invariant.trees;
       notes = notes_step (λ e. item_of e c.args.scopes.now) c.args.notes.now c.parts.notes c.item.new.notes
-          xs c.parts.e-index c.e-item.result c.parts-test.true c.e-item.is c.in_ok-item.ensures.notes c.parts.invariant.notes;
+          xs c.parts.e-index c.e-item.result c.parts-test.true c.e-item.is c.in-Ok.ensures.notes c.parts.invariant.notes;
     }

@@ -32,15 +32,15 @@ stats-parts-preserved t c =
     let xs : List Stat = c.as_slice-e-items.result.now in
     let f : Stat → Scope → Stepped CheckedStat = λ x s. stat_of x c.args.context s in
     let whole : Stepped (List CheckedStat) = stats_of xs c.args.context c.args.scopes.now in record {
-      trees = ordered_trees f c.parts.all c.push.new.self xs c.parts.e-index c.e-item.result c.in_ok-stat.field-0
-          c.parts.scopes c.stat.new.scopes whole.tree c.parts-test.true c.e-item.is c.in_ok-stat.ensures.tree
-          c.in_ok-stat.ensures.scope c.in_ok-push.ensures.ok c.parts.invariant.trees;
+      trees = ordered_trees f c.parts.all c.push.new.self xs c.parts.e-index c.e-item.result c.in-Ok.made
+          c.parts.scopes c.stat.new.scopes whole.tree c.parts-test.true c.e-item.is c.in-Ok.ensures.tree
+          c.in-Ok.ensures.scope c.in-Ok-push.ensures.ok c.parts.invariant.trees;
       scope = ordered_scope f xs c.parts.e-index c.e-item.result c.parts.scopes c.stat.new.scopes whole.scope
-          c.parts-test.true c.e-item.is c.in_ok-stat.ensures.scope c.parts.invariant.scope;
+          c.parts-test.true c.e-item.is c.in-Ok.ensures.scope c.parts.invariant.scope;
       notes = ordered_notes f c.parts.notes c.stat.new.notes (noted c.args.notes.now whole.notes) xs c.parts.e-index
           c.e-item.result c.parts.scopes c.stat.new.scopes c.parts-test.true c.e-item.is
-          c.in_ok-stat.ensures.scope c.in_ok-stat.ensures.notes c.parts.invariant.notes;
-      outer = c.in_ok-stat.ensures.outer ∙ c.parts.invariant.outer;
+          c.in-Ok.ensures.scope c.in-Ok.ensures.notes c.parts.invariant.notes;
+      outer = c.in-Ok.ensures.outer ∙ c.parts.invariant.outer;
     }
 
 pub stat-returns-in_ok-no-in-If-clause-notes : goal.stat-returns-in_ok-no-in-If-clause-notes

@@ -12,13 +12,13 @@ parts-preserved c =
     let xs : List Declarator = c.as_slice-e-items.result.now in
     let f : Declarator → Scope → Stepped CheckedDeclarator = λ d s. declarator_of c.args.kind c.args.context d s in
     let whole : Stepped (List CheckedDeclarator) = declarators_of c.args.kind c.args.context xs c.args.scopes.now in record {
-      trees = ordered_trees f c.parts.all c.push.new.self xs c.parts.e-index c.e-item.result c.in_ok-declarator.field-0
-          c.parts.scopes c.declarator.new.scopes whole.tree c.parts-test.true c.e-item.is c.in_ok-declarator.ensures.tree
-          c.in_ok-declarator.ensures.scope c.in_ok-push.ensures.ok c.parts.invariant.trees;
+      trees = ordered_trees f c.parts.all c.push.new.self xs c.parts.e-index c.e-item.result c.in-Ok.made
+          c.parts.scopes c.declarator.new.scopes whole.tree c.parts-test.true c.e-item.is c.in-Ok.ensures.tree
+          c.in-Ok.ensures.scope c.in-Ok-push.ensures.ok c.parts.invariant.trees;
       scope = ordered_scope f xs c.parts.e-index c.e-item.result c.parts.scopes c.declarator.new.scopes whole.scope
-          c.parts-test.true c.e-item.is c.in_ok-declarator.ensures.scope c.parts.invariant.scope;
+          c.parts-test.true c.e-item.is c.in-Ok.ensures.scope c.parts.invariant.scope;
       notes = ordered_notes f c.parts.notes c.declarator.new.notes (noted c.args.notes.now whole.notes) xs c.parts.e-index
           c.e-item.result c.parts.scopes c.declarator.new.scopes c.parts-test.true c.e-item.is
-          c.in_ok-declarator.ensures.scope c.in_ok-declarator.ensures.notes c.parts.invariant.notes;
-      outer = c.in_ok-declarator.ensures.outer ∙ c.parts.invariant.outer;
+          c.in-Ok.ensures.scope c.in-Ok.ensures.notes c.parts.invariant.notes;
+      outer = c.in-Ok.ensures.outer ∙ c.parts.invariant.outer;
     }
