@@ -176,6 +176,30 @@ fn is_last<R: Wait>(rt: &R, alloc: Global, yard: &Yard, pass: &mut Pass) -> Resu
     Ok(done == Some((1, Time(5_000))) && is_over)
 }
 
+// Has a second pass do a job while the one of the first pass is out, hands that one in, and says whether the jobs were the
+// first ones of processes 0 and 1.
+fn do_two_together<R: Wait>(
+    rt: &R,
+    alloc: Global,
+    yard: &Yard,
+    first: &mut Pass,
+    second: &mut Pass,
+) -> Result<bool, AllocError>
+    requires own { first.old.yard ≡ yard.now.table.shared.table_id }
+    requires idle { first.old.out ≡ None }
+    requires own_second { second.old.yard ≡ yard.now.table.shared.table_id }
+    requires idle_second { second.old.out ≡ None }
+    ensures { OnOk result ((first.new.yard ≡ first.old.yard) × (first.new.out ≡ None)) }
+{
+    let Turn::Job(job) = yard.take(rt, first)? else {
+        return Ok(false);
+    };
+    let is_first = job.process == 0 && job.stamp.time == Time(0);
+    let other = do_one(rt, alloc, yard, second);
+    hand_in(rt, alloc, yard, first, job)?;
+    Ok(is_first && other? == Some((1, Time(0))))
+}
+
 #[test]
 fn two_jobs_are_out_together(rt: HostRuntime) -> Result<(), Fail> {
     let Some(board) = board_of(rt.alloc(), SECOND_THREAD_FIRST)? else {
@@ -184,17 +208,7 @@ fn two_jobs_are_out_together(rt: HostRuntime) -> Result<(), Fail> {
     let (yard, mut passes) = Yard::make(rt.alloc(), board, 2)?;
     let mut second = passes.pop().unwrap();
     let mut first = passes.pop().unwrap();
-    let Turn::Job(job) = yard.take(&rt, &mut first)? else {
-        panic!(rt; "no job for the first pass")
-    };
-    let Turn::Job(other) = yard.take(&rt, &mut second)? else {
-        panic!(rt; "no job for the second pass")
-    };
-    assert!(rt; job.process == 0 && other.process == 1);
-    let one = hand_in(&rt, rt.alloc(), &yard, &mut first, job);
-    let two = hand_in(&rt, rt.alloc(), &yard, &mut second, other);
-    one?;
-    two?;
+    assert!(rt; do_two_together(&rt, rt.alloc(), &yard, &mut first, &mut second)?);
     assert!(rt; is_last(&rt, rt.alloc(), &yard, &mut first)?);
     Ok(())
 }
