@@ -2,6 +2,7 @@
 use Rattle.std.proofs.Common.{◌≡◌, ◌∙◌, ap, sym, refl, ℕ, List, [], ◌∷◌, ◌++◌, map, Option, Some, None}
 use Rattle.ooo_lexer.specs.declared.position.Position.{Position}
 use Rattle.ooo_checked.specs.declared.expr.CheckedExpr.{CheckedExpr}
+use Rattle.ooo_checked.specs.declared.stat.CheckedLocal.{CheckedLocal}
 use Rattle.ooo_checked.specs.declared.stat.CheckedSimple.{CheckedSimple}
 use Rattle.ooo_checked.specs.declared.stat.CheckedStart.{CheckedStart}
 use Rattle.ooo_checked.specs.declared.stat.CheckedStat.{CheckedStat, CheckedStat-F, map-CheckedStat, roll-CheckedStat, fold-roll-CheckedStat}
@@ -9,7 +10,7 @@ use Rattle.ooo_checked.specs.declared.stat.CheckedStat.TheOpen as layer
 use Rattle.ooo_checked.specs.declared.stat.CheckedStat.TheVariants as tree
 use Rattle.ooo_constants.specs.declared.bodies.TimeRefusal.{TimeRefusal}
 use Rattle.ooo_constants.specs.Bodies.{all_of, body_refusals, else_refusals, start_refusals, stat_refusals, stat_refusals_step, step_refusals, told_of}
-use Rattle.ooo_constants.specs.Bodies.{body_calls, else_calls, start_calls, stat_calls, stat_calls_step, step_calls}
+use Rattle.ooo_constants.specs.Bodies.{body_calls, declarator_calls, else_calls, simple_calls, start_calls, stat_calls, stat_calls_step, step_calls}
 use Rattle.ooo_constants.specs.Meanings.{Constants}
 use Rattle.ooo_constants.proofs.Told.{told_two, told_three}
 
@@ -78,6 +79,14 @@ calls_in_order (x ∷ xs) = ap (λ others. stat_calls x ++ others) (calls_in_ord
 pub calls_of_block : (at : Position) (xs : List CheckedStat) → stat_calls (tree.Block at xs) ≡ body_calls xs
 calls_of_block at xs =
     ap (λ x. stat_calls x) (sym (tree.rolls-Block at xs)) ∙ calls_at (layer.Block at xs) ∙ calls_in_order xs
+
+-- of a declaration
+pub calls_of_local : (l : CheckedLocal) → stat_calls (tree.Local l) ≡ declarator_calls l.names
+calls_of_local l = ap (λ x. stat_calls x) (sym (tree.rolls-Local l)) ∙ calls_at (layer.Local l)
+
+-- of a simple statement
+pub calls_of_simple : (s : CheckedSimple) → stat_calls (tree.Simple s) ≡ simple_calls s
+calls_of_simple s = ap (λ x. stat_calls x) (sym (tree.rolls-Simple s)) ∙ calls_at (layer.Simple s)
 
 -- of an `if`
 pub calls_of_if : (at : Position) (e : CheckedExpr) (f : CheckedStat) (g : Option CheckedStat) →

@@ -1,5 +1,6 @@
 pub mod Lists
 pub mod Decided
+pub mod Formed
 pub mod Told
 pub mod Ticks
 pub mod Blocks

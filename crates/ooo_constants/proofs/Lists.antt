@@ -13,3 +13,12 @@ pub appended : {A T : Type 0} (f : A → List T) (g : List A → List T) → ((x
 appended f g step all all' whole xs i x h is more so_far =
     ap (λ ys. ys ++ g (drop (i + 1) xs)) more ∙ append_assoc all (f x) (g (drop (i + 1) xs))
     ∙ ap (λ ys. all ++ ys) (sym (step x (drop (i + 1) xs)) ∙ ap g (sym (dropped xs i x h is))) ∙ so_far
+
+-- what is appended part by part is appended as a whole
+pub in_two : {T : Type 0} (all mid xs ys : List T) → mid ≡ all ++ xs → all ++ (xs ++ ys) ≡ mid ++ ys
+in_two all mid xs ys first = sym (ap (λ zs. zs ++ ys) first ∙ append_assoc all xs ys)
+
+pub in_three : {T : Type 0} (all mid late xs ys zs : List T) → mid ≡ all ++ xs → late ≡ mid ++ ys →
+    all ++ (xs ++ ys ++ zs) ≡ late ++ zs
+in_three all mid late xs ys zs first second =
+    in_two all late (xs ++ ys) zs (second ∙ ap (λ before. before ++ ys) first ∙ append_assoc all xs ys)

@@ -20,7 +20,6 @@ pub fn add_calls(body: &[CheckedStat], calls: &mut Vec<usize>) -> Result<(), All
 
 // Adds those of statements one after the other.
 #[cycle(calls)]
-#[tactic(auto, unfolding(crate::specs::Bodies::stat_calls), using(crate::proofs::Blocks::calls_of_block, crate::proofs::Blocks::calls_of_if, crate::proofs::Blocks::calls_of_for))]
 fn add_stats(body: &[CheckedStat], calls: &mut Vec<usize>) -> Result<(), AllocError>
     ensures { OnOk result (calls.new.items ≡ calls.old.items ++ body_calls body.now) }
 {
@@ -32,7 +31,7 @@ fn add_stats(body: &[CheckedStat], calls: &mut Vec<usize>) -> Result<(), AllocEr
 
 // Adds those of a statement.
 #[cycle(calls)]
-#[tactic(auto, unfolding(crate::specs::Bodies::stat_calls), using(crate::proofs::Blocks::calls_of_block, crate::proofs::Blocks::calls_of_if, crate::proofs::Blocks::calls_of_for))]
+#[tactic(auto, unfolding(crate::specs::Bodies::stat_calls))]
 fn add_stat(statement: &CheckedStat, calls: &mut Vec<usize>) -> Result<(), AllocError>
     ensures { OnOk result (calls.new.items ≡ calls.old.items ++ stat_calls statement.now) }
 {
@@ -59,7 +58,6 @@ fn add_stat(statement: &CheckedStat, calls: &mut Vec<usize>) -> Result<(), Alloc
 
 // Adds those of the statement after `else`, if there is one.
 #[cycle(calls)]
-#[tactic(auto, unfolding(crate::specs::Bodies::stat_calls), using(crate::proofs::Blocks::calls_of_block, crate::proofs::Blocks::calls_of_if, crate::proofs::Blocks::calls_of_for))]
 fn add_else(no: &Option<Boxed<CheckedStat>>, calls: &mut Vec<usize>) -> Result<(), AllocError>
     ensures { OnOk result (calls.new.items ≡ calls.old.items ++ else_calls no.now) }
 {

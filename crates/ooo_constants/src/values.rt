@@ -1,13 +1,15 @@
-ghost use Rattle.std.specs.Prelude.{◌≡◌};
+ghost use Rattle.std.specs.Prelude.{◌≡◌, if◌then◌else◌};
+ghost use Rattle.ooo_value.specs.Values.{truth_of};
 ghost use Rattle.ooo_constants.specs.Meanings.{constants_of};
-ghost use Rattle.ooo_constants.specs.Values.{is_decided, operator_of, prefixed, value_of};
+ghost use Rattle.ooo_constants.specs.Values.{converted, is_decided, on_value, operated, operator_of};
+ghost use Rattle.ooo_constants.specs.Values.{prefixed, value_of};
 
 use crate::kinds::kind_written;
 use crate::known::Known;
 use crate::names::name_value;
 use ooo_checked::CheckedExpr;
 use ooo_syntax::{BinaryOp, PrefixOp};
-use ooo_value::{Fault, Op, Value, binary, convert, invert, negate, promoted, truth};
+use ooo_value::{Fault, Kind, Op, Value, binary, convert, invert, negate, promoted, truth};
 
 /// What a constant expression gives: operands from left to right, and the first fault ends it. The right side of `&&` or
 /// `||`, and the branches of `?:`, are evaluated only where their value is needed.
@@ -15,7 +17,8 @@ use ooo_value::{Fault, Op, Value, binary, convert, invert, negate, promoted, tru
 /// # Errors
 ///
 /// The fault, where it has one.
-#[tactic(auto, unfolding(crate::specs::Values::value_of), using(crate::proofs::Decided::left_or_right))]
+#[cycle(value)]
+#[tactic(auto, unfolding(crate::specs::Values::value_of))]
 pub fn value(known: Known<'_>, e: &CheckedExpr) -> Result<Value, Fault>
     ensures { result ≡ value_of (constants_of known.entry) e.now }
 {
@@ -29,30 +32,65 @@ pub fn value(known: Known<'_>, e: &CheckedExpr) -> Result<Value, Fault>
         CheckedExpr::Paren(_, _, e) => value(known, e.get()),
         CheckedExpr::Prefix(_, _, op, e) => prefixed(*op, value(known, e.get())?),
         CheckedExpr::Cast(_, _, form, e) | CheckedExpr::Conversion(_, form, e) => {
-            let operand = value(known, e.get())?;
-            Ok(convert(operand, kind_written(form.form)))
+            converted(known, kind_written(form.form), e.get())
         }
-        CheckedExpr::Binary(_, sign, a, b) => match operator(*sign) {
-            Some(op) => {
-                let left = value(known, a.get())?;
-                let right = value(known, b.get())?;
-                binary(op, left, right)
-            }
-            None => {
-                let left = truth(value(known, a.get())?);
-                if is_decided(*sign, left) {
-                    return Ok(Value::Bool(left));
-                }
-                Ok(Value::Bool(truth(value(known, b.get())?)))
-            }
-        },
+        CheckedExpr::Binary(_, sign, a, b) => operated(known, *sign, a.get(), b.get()),
         CheckedExpr::Choose(kind, test, yes, no) => {
-            if truth(value(known, test.get())?) {
-                Ok(convert(value(known, yes.get())?, *kind))
-            } else {
-                Ok(convert(value(known, no.get())?, *kind))
-            }
+            chosen(known, *kind, test.get(), yes.get(), no.get())
         }
+    }
+}
+
+// What an expression gives, in another kind.
+#[cycle(value)]
+fn converted(known: Known<'_>, kind: Kind, e: &CheckedExpr) -> Result<Value, Fault>
+    ensures { result ≡ converted kind (value_of (constants_of known.entry) e.now) }
+{
+    let operand = value(known, e)?;
+    Ok(convert(operand, kind))
+}
+
+// What a sign gives with what stands before and behind it.
+#[cycle(value)]
+fn operated(
+    known: Known<'_>,
+    sign: BinaryOp,
+    a: &CheckedExpr,
+    b: &CheckedExpr,
+) -> Result<Value, Fault>
+    ensures { result ≡ operated sign (operator_of sign) (value_of (constants_of known.entry) a.now)
+        (value_of (constants_of known.entry) b.now) }
+{
+    let left = value(known, a)?;
+    match operator(sign) {
+        Some(op) => {
+            let right = value(known, b)?;
+            binary(op, left, right)
+        }
+        None if is_decided(sign, truth(left)) => Ok(Value::Bool(truth(left))),
+        None => {
+            let right = value(known, b)?;
+            Ok(Value::Bool(truth(right)))
+        }
+    }
+}
+
+// What `?:` gives, in this kind.
+#[cycle(value)]
+fn chosen(
+    known: Known<'_>,
+    kind: Kind,
+    test: &CheckedExpr,
+    yes: &CheckedExpr,
+    no: &CheckedExpr,
+) -> Result<Value, Fault>
+    ensures { let of = value_of (constants_of known.entry) in
+        result ≡ on_value (of test.now) (λ v. converted kind (if truth_of v then of yes.now else of no.now)) }
+{
+    if truth(value(known, test)?) {
+        converted(known, kind, yes)
+    } else {
+        converted(known, kind, no)
     }
 }
 
