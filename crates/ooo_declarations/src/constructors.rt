@@ -15,7 +15,7 @@ use ooo_grammar::{
     Limits, Read, begins_with_member_word, one, one_inside, read_event_word, read_member_word,
     read_word, starts,
 };
-use ooo_simple::{followed, none_yet, read_event, with};
+use ooo_simple::{begun, followed, none_yet, read_event, with};
 use ooo_syntax::{Binding, Constructor, Event, Init, Member, Setup, Symbol, Terminal, Word};
 use sqlite_items::Items;
 use std::alloc::Global;
@@ -54,13 +54,13 @@ fn read_some_inits<'a>(
 ) -> Read<'a, Items<Init>>
     ensures { Gives (reads_at limits some_inits tokens.now) result }
 {
-    let (first, mut rest) = read_init(alloc, tokens, limits)?;
-    let mut list = with(Items::new(alloc), first)?;
+    let (first, mut rest) = got!(read_init(alloc, tokens, limits));
+    let mut list = begun(alloc, first)?;
     'turns: for _turn in 0..rest.len() {
         if !starts(rest, Terminal::Comma) {
             return Ok((list, rest));
         }
-        let (more, after) = read_next_init(alloc, list, rest, limits)?;
+        let (more, after) = got!(read_next_init(alloc, list, rest, limits));
         list = more;
         rest = after;
     }
@@ -215,13 +215,13 @@ fn read_some_events<'a>(
 ) -> Read<'a, Items<Event>>
     ensures { Gives (reads_at limits some_events tokens.now) result }
 {
-    let (first, mut rest) = read_event(alloc, tokens, limits)?;
-    let mut list = with(Items::new(alloc), first)?;
+    let (first, mut rest) = got!(read_event(alloc, tokens, limits));
+    let mut list = begun(alloc, first)?;
     'turns: for _turn in 0..rest.len() {
         if !starts(rest, Terminal::ShiftLeft) {
             return Ok((list, rest));
         }
-        let (more, after) = read_next_event(alloc, list, rest, limits)?;
+        let (more, after) = got!(read_next_event(alloc, list, rest, limits));
         list = more;
         rest = after;
     }
@@ -337,7 +337,7 @@ fn read_all_setups<'a>(
         if !begins_with_setup(rest) {
             return Ok((list, rest));
         }
-        let (more, after) = read_one_more_setup(alloc, list, rest, limits)?;
+        let (more, after) = got!(read_one_more_setup(alloc, list, rest, limits));
         list = more;
         rest = after;
     }

@@ -12,7 +12,7 @@ use crate::constructors::read_binding;
 use crate::signs::{begins_with_channel, begins_with_constant, begins_with_main_entry};
 use crate::words::{read_channel_word, read_of_type};
 use ooo_grammar::{Limits, Read, begins_with_word, one, read_text, read_word, starts};
-use ooo_simple::{followed, none_yet, read_boxed_timed, with};
+use ooo_simple::{begun, followed, none_yet, read_boxed_timed, with};
 use ooo_syntax::{Arg, ChannelWord, MainChannel, MainItem, Mark, Symbol, Terminal, TypeName, Word};
 use ooo_value::Name;
 use sqlite_items::Items;
@@ -73,13 +73,13 @@ fn read_some_main_channels<'a>(
 ) -> Read<'a, Items<MainItem>>
     ensures { Gives (reads_at limits (some_main_channels channel form) tokens.now) result }
 {
-    let (first, mut rest) = read_main_channel(alloc, channel, form, tokens, limits)?;
-    let mut list = with(Items::new(alloc), first)?;
+    let (first, mut rest) = got!(read_main_channel(alloc, channel, form, tokens, limits));
+    let mut list = begun(alloc, first)?;
     'turns: for _turn in 0..rest.len() {
         if !starts(rest, Terminal::Comma) {
             return Ok((list, rest));
         }
-        let (more, after) = read_next_main_channel(alloc, list, channel, form, rest, limits)?;
+        let (more, after) = got!(read_next_main_channel(alloc, list, channel, form, rest, limits));
         list = more;
         rest = after;
     }
@@ -190,13 +190,13 @@ fn read_some_clocks<'a>(
 ) -> Read<'a, Items<MainItem>>
     ensures { Gives (reads_at limits (some_clocks first) tokens.now) result }
 {
-    let (clock, mut rest) = read_clock(alloc, first, tokens, limits)?;
-    let mut list = with(Items::new(alloc), clock)?;
+    let (clock, mut rest) = got!(read_clock(alloc, first, tokens, limits));
+    let mut list = begun(alloc, clock)?;
     'turns: for _turn in 0..rest.len() {
         if !starts(rest, Terminal::Comma) {
             return Ok((list, rest));
         }
-        let (more, after) = read_next_clock(alloc, list, first, rest, limits)?;
+        let (more, after) = got!(read_next_clock(alloc, list, first, rest, limits));
         list = more;
         rest = after;
     }
@@ -285,13 +285,13 @@ fn read_some_instances<'a>(
 ) -> Read<'a, Items<MainItem>>
     ensures { Gives (reads_at limits (some_instances module_name.now) tokens.now) result }
 {
-    let (first, mut rest) = read_instance_of(alloc, module_name, tokens, limits)?;
-    let mut list = with(Items::new(alloc), first)?;
+    let (first, mut rest) = got!(read_instance_of(alloc, module_name, tokens, limits));
+    let mut list = begun(alloc, first)?;
     'turns: for _turn in 0..rest.len() {
         if !starts(rest, Terminal::Comma) {
             return Ok((list, rest));
         }
-        let (more, after) = read_next_instance(alloc, list, module_name, rest, limits)?;
+        let (more, after) = got!(read_next_instance(alloc, list, module_name, rest, limits));
         list = more;
         rest = after;
     }
@@ -384,7 +384,7 @@ pub fn read_main_entries<'a>(
         if !begins_with_main_entry(rest) {
             return Ok((list, rest));
         }
-        let (more, after) = read_one_more_main_entry(alloc, list, rest, limits)?;
+        let (more, after) = got!(read_one_more_main_entry(alloc, list, rest, limits));
         list = more;
         rest = after;
     }

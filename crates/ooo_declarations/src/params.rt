@@ -5,7 +5,7 @@ ghost use Rattle.ooo_simple.specs.Loops.{next_item};
 ghost use Rattle.ooo_declarations.specs.Parts.{further_params, listed_params, named_params, some_params};
 
 use ooo_grammar::{Limits, Read, begins_with_type, one, read_type, read_word, starts};
-use ooo_simple::{followed, none_yet, with};
+use ooo_simple::{begun, followed, none_yet, with};
 use ooo_syntax::{Param, Symbol, Terminal, Word};
 use sqlite_items::Items;
 use std::alloc::Global;
@@ -44,13 +44,13 @@ fn read_some_params<'a>(
 ) -> Read<'a, Items<Param>>
     ensures { Gives (reads_at limits some_params tokens.now) result }
 {
-    let (first, mut rest) = read_param(alloc, tokens, limits)?;
-    let mut list = with(Items::new(alloc), first)?;
+    let (first, mut rest) = got!(read_param(alloc, tokens, limits));
+    let mut list = begun(alloc, first)?;
     'turns: for _turn in 0..rest.len() {
         if !starts(rest, Terminal::Comma) {
             return Ok((list, rest));
         }
-        let (more, after) = read_next_param(alloc, list, rest, limits)?;
+        let (more, after) = got!(read_next_param(alloc, list, rest, limits));
         list = more;
         rest = after;
     }
@@ -112,7 +112,7 @@ fn read_further_params<'a>(
         if !starts(rest, Terminal::Comma) {
             return Ok((list, rest));
         }
-        let (more, after) = read_next_param(alloc, list, rest, limits)?;
+        let (more, after) = got!(read_next_param(alloc, list, rest, limits));
         list = more;
         rest = after;
     }

@@ -8,7 +8,7 @@ ghost use Rattle.ooo_declarations.specs.Parts.{parens_word, some_words};
 
 use crate::signs::channel_of;
 use ooo_grammar::{Limits, Read, ReadError, next, one, read_type, read_word, starts};
-use ooo_simple::{followed, with};
+use ooo_simple::{begun, followed, with};
 use ooo_syntax::{ChannelWord, Symbol, Terminal, TypeName, Word};
 use sqlite_items::Items;
 use std::alloc::Global;
@@ -72,13 +72,13 @@ fn read_some_words<'a>(
 ) -> Read<'a, Items<Word>>
     ensures { Gives (reads_at limits some_words tokens.now) result }
 {
-    let (first, mut rest) = read_word(alloc, tokens, limits)?;
-    let mut list = with(Items::new(alloc), first)?;
+    let (first, mut rest) = got!(read_word(alloc, tokens, limits));
+    let mut list = begun(alloc, first)?;
     'turns: for _turn in 0..rest.len() {
         if !starts(rest, Terminal::Comma) {
             return Ok((list, rest));
         }
-        let (more, after) = read_next_word(alloc, list, rest, limits)?;
+        let (more, after) = got!(read_next_word(alloc, list, rest, limits));
         list = more;
         rest = after;
     }

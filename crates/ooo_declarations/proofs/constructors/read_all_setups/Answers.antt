@@ -1,5 +1,4 @@
-use Rattle.std.proofs.Common.{arith, rules}
-use Rattle.std.proofs.lemmas.Grind.{common_steps}
+use Rattle.std.proofs.Common.{arith, sym, ◌∙◌}
 use Rattle.ooo_grammar.specs.Sets.{in_set}
 use Rattle.ooo_grammar.specs.Members.{setup}
 use Rattle.ooo_declarations.specs.Parts.{begins_setup}
@@ -7,12 +6,10 @@ use Rattle.ooo_declarations.specs.Loops.{one_more}
 use Rattle.ooo_simple.specs.Steps.{turn_made, turn_refused}
 use Rattle.ooo_declarations.proofs.constructors.read_all_setups.Goals as goal
 
-pub returns-in_err-more : goal.returns-in_err-more
-returns-in_err-more c =
-    let s = turn_refused (in_set begins_setup) (one_more c.args.limits setup) _ _ _ c.turns.list c.turns.rest.now c.in_err-more.field-0.0 c.turns.invariant (omega (arith, c.turns-test.true)) in
-    first_of (search rules, grind (arith, common_steps))
+pub returns-in-Err : goal.returns-in-Err
+returns-in-Err c =
+    turn_refused (in_set begins_setup) (one_more c.args.limits setup) _ _ _ c.turns.list c.turns.rest.now c.in-Err.error c.turns.invariant (omega (arith, c.turns-test.true)) (sym c.begins_with_setup.ensures ∙ c.if-not-begins_with_setup.false) c.in-Err.ensures
 
 pub turns-preserved : goal.turns-preserved
 turns-preserved c =
-    let s = turn_made (in_set begins_setup) (one_more c.args.limits setup) _ _ _ c.turns.list c.in_ok-more.more c.turns.rest.now c.in_ok-more.after.now c.turns.invariant (omega (arith, c.turns-test.true)) in
-    first_of (search rules, grind (arith, common_steps))
+    turn_made (in_set begins_setup) (one_more c.args.limits setup) _ _ _ c.turns.list c.in-Ok.found.0 c.turns.rest.now c.in-Ok.found.1.now c.turns.invariant (omega (arith, c.turns-test.true)) (sym c.begins_with_setup.ensures ∙ c.if-not-begins_with_setup.false) c.in-Ok.ensures

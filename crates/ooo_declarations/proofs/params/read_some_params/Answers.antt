@@ -1,15 +1,41 @@
-use Rattle.std.proofs.Common.{[], ◌∷◌, arith, rules, suc, ◌+◌, ◌-◌, ◌≡◌, length}
-use Rattle.std.proofs.lemmas.Grind.{common_steps}
+use Rattle.std.proofs.Common.{[], ◌∷◌, arith, suc, ◌+◌, ◌-◌, ◌≡◌, length, ap, sym, ◌∙◌}
 use Rattle.ooo_syntax.specs.declared.terminal.Terminal.TheVariants as terminal
+use Rattle.ooo_grammar.specs.Forms.{repeats_in}
+use Rattle.ooo_grammar.specs.Gives.{reads_at}
 use Rattle.ooo_grammar.specs.Sets.{in_set}
-use Rattle.ooo_grammar.specs.Steps.{loop_turn}
+use Rattle.ooo_grammar.specs.Steps.{stops_first, loop_turn, loop_stops, loop_ends}
 use Rattle.ooo_grammar.specs.Members.{param}
 use Rattle.ooo_simple.specs.Loops.{next_item}
+use Rattle.ooo_simple.specs.Steps.{loop_begins}
 use Rattle.ooo_declarations.proofs.params.read_some_params.Goals as goal
+
+pub returns-in-Err : goal.returns-in-Err
+returns-in-Err c = stops_first _ _ _ c.in-Err.ensures
+
+pub turns-init : goal.turns-init
+turns-init c =
+    loop_begins (in_set (terminal.Comma ∷ [])) (next_item c.args.limits terminal.Comma param) (λ b. b ∷ []) (reads_at c.args.limits param c.args.tokens.now) _ c.in-Ok.found.0 _ c.in-Ok.found.1.now
+    c.in-Ok.ensures c.in_ok-list.ensures (omega arith)
 
 pub turns-preserved : goal.turns-preserved
 turns-preserved c =
-    let n = length c.in_ok-first.rest.now in
+    let n = length c.in-Ok.found.1.now in
     let e : n - c.turns._turn ≡ suc (n - (c.turns._turn + 1)) = omega (arith, c.turns-test.true) in
-    let s = loop_turn (in_set (terminal.Comma ∷ [])) (next_item c.args.limits terminal.Comma param) _ (n - c.turns._turn) (n - (c.turns._turn + 1)) c.turns.list c.in_ok-more.more c.turns.rest.now c.in_ok-more.after.now c.turns.invariant e in
-    first_of (search rules, grind (arith, common_steps))
+    loop_turn (in_set (terminal.Comma ∷ [])) (next_item c.args.limits terminal.Comma param) _ (n - c.turns._turn) (n - (c.turns._turn + 1)) c.turns.list c.in-Ok-read_next_param.found.0 c.turns.rest.now c.in-Ok-read_next_param.found.1.now c.turns.invariant e (sym c.starts.ensures ∙ c.if-not-starts.false) c.in-Ok-read_next_param.ensures
+
+pub returns-then-not-starts : goal.returns-then-not-starts
+returns-then-not-starts c =
+    let n = length c.in-Ok.found.1.now in
+    loop_ends (in_set (terminal.Comma ∷ [])) (next_item c.args.limits terminal.Comma param) _ (n - c.turns._turn) c.turns.list c.turns.rest.now c.turns.invariant (sym c.starts.ensures ∙ c.if-not-starts.true)
+
+pub returns-in-Err-read_next_param : goal.returns-in-Err-read_next_param
+returns-in-Err-read_next_param c =
+    let n = length c.in-Ok.found.1.now in
+    let e : n - c.turns._turn ≡ suc (n - (c.turns._turn + 1)) = omega (arith, c.turns-test.true) in
+    loop_stops (in_set (terminal.Comma ∷ [])) (next_item c.args.limits terminal.Comma param) _ (n - c.turns._turn) (n - (c.turns._turn + 1)) c.turns.list c.turns.rest.now c.in-Err-read_next_param.error c.turns.invariant e (sym c.starts.ensures ∙ c.if-not-starts.false) c.in-Err-read_next_param.ensures
+
+pub returns : goal.returns
+returns c =
+    let n = length c.in-Ok.found.1.now in
+    let e : n - c.turns._turn ≡ 0 = omega (arith, c.turns-test.false) in
+    c.turns.invariant ∙ ap (λ n. repeats_in (in_set (terminal.Comma ∷ [])) (next_item c.args.limits terminal.Comma param) n c.turns.list c.turns.rest.now) e
