@@ -1,4 +1,4 @@
-ghost use Rattle.std.specs.Prelude.{◌≡◌, ◌∷◌, [], None, Some, IfOk, OnOk, length, slice_get};
+ghost use Rattle.std.specs.Prelude.{◌≡◌, ◌∷◌, [], ◌++◌, None, Some, IfOk, OnOk, length, slice_get};
 ghost use Rattle.ooo_elaborate.specs.Bindings.{channel_behind, channels_of, fits, fits_channel, fits_port};
 ghost use Rattle.ooo_elaborate.specs.Bindings.{fits_found_channel, fits_found_port, is_in, is_nothing};
 ghost use Rattle.ooo_elaborate.specs.Bindings.{is_signal, linked, linked_found, linked_port, links_by};
@@ -131,6 +131,18 @@ fn fits(walk: &Walk, form: Thing, to: Meaning) -> bool
     }
 }
 
+// Adds the same name to others.
+pub(crate) fn push_copy(
+    alloc: Global,
+    name: &Name,
+    names: &mut Items<Name>,
+) -> Result<(), AllocError>
+    ensures { OnOk result (names.new ≡ names.old ++ name.now ∷ []) }
+{
+    let copy = name.copy(alloc)?;
+    names.push(copy)
+}
+
 // A refusal.
 pub(crate) fn refusal(
     alloc: Global,
@@ -141,7 +153,7 @@ pub(crate) fn refusal(
     ensures { IfOk result (λ refusal. refusal ≡ refusal_of what at name.now) }
 {
     let mut names = Items::new(alloc);
-    names.push(name.copy(alloc)?)?;
+    keeping!(names; push_copy(alloc, name, &mut names));
     Ok(Some(Refusal { what, at, names }))
 }
 
@@ -158,11 +170,11 @@ impl Links {
         ensures { OnOk result (self.new ≡ linked_port walk.now binding port.now so_far self.old) }
     {
         if !fits(walk, port.form, binding.to) {
-            self.refusal = refusal(alloc, ElabBreach::PortKind, binding.at, &port.name)?;
+            self.refusal = got!(refusal(alloc, ElabBreach::PortKind, binding.at, &port.name));
             return Ok(());
         }
         if !is_nothing(so_far) {
-            self.refusal = refusal(alloc, ElabBreach::PortBoundTwice, binding.at, &port.name)?;
+            self.refusal = got!(refusal(alloc, ElabBreach::PortBoundTwice, binding.at, &port.name));
             return Ok(());
         }
         if (binding.port as usize) < self.ends.len() {
@@ -217,7 +229,8 @@ impl Links {
     {
         let mut all = Items::new(alloc);
         'parts: for e in self.ends.as_slice() {
-            all.push(self.channel_behind(self.ends.len(), Some(*e)))?;
+            let channel = self.channel_behind(self.ends.len(), Some(*e));
+            keeping!(all; all.push(channel));
         }
         Ok(all)
     }
@@ -231,13 +244,13 @@ impl Links {
 pub(crate) fn link_all(alloc: Global, walk: &Walk) -> Result<Links, AllocError>
     ensures { IfOk result (λ links. links ≡ links_of walk.now) }
 {
-    let ends = Items::from_vec(Vec::from_elem(alloc, Meaning::Nothing, walk.ports.len())?);
+    let ends = got!(Vec::from_elem(alloc, Meaning::Nothing, walk.ports.len()));
     let mut links = Links {
-        ends,
+        ends: Items::from_vec(ends),
         refusal: None,
     };
     'parts: for e in walk.bindings.as_slice() {
-        links.link(alloc, walk, *e)?;
+        keeping!(links; links.link(alloc, walk, *e));
     }
     Ok(links)
 }

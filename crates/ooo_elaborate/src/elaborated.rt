@@ -8,7 +8,7 @@ ghost use Rattle.ooo_elaborate.specs.Elaborated.{process_members, process_names,
 ghost use Rattle.ooo_elaborate.specs.Elaborated.{unless_linked, unless_walked};
 ghost use Rattle.ooo_elaborate.specs.Holders.{holders_refusal};
 
-use crate::bindings::{Links, link_all, unbound};
+use crate::bindings::{Links, link_all, push_copy, unbound};
 use crate::ends::hold_body;
 use crate::functions::{Numbered, number_all};
 use crate::holders::{Held, hold_functions, holders_refusal};
@@ -30,7 +30,7 @@ fn first_events(alloc: Global, channels: &[WalkedChannel]) -> Result<Items<u32>,
 {
     let mut all = Items::new(alloc);
     'parts: for e in channels {
-        all.push(e.first_event)?;
+        keeping!(all; all.push(e.first_event));
     }
     Ok(all)
 }
@@ -44,7 +44,7 @@ fn bound_channels(
 {
     let mut all = Items::new(alloc);
     'parts: for e in channels {
-        all.push(e.bound)?;
+        keeping!(all; all.push(e.bound));
     }
     Ok(all)
 }
@@ -55,7 +55,7 @@ fn channel_names(alloc: Global, channels: &[WalkedChannel]) -> Result<Items<Name
 {
     let mut all = Items::new(alloc);
     'parts: for e in channels {
-        all.push(e.name.copy(alloc)?)?;
+        keeping!(all; push_copy(alloc, &e.name, &mut all));
     }
     Ok(all)
 }
@@ -66,7 +66,7 @@ fn process_names(alloc: Global, processes: &[WalkedProcess]) -> Result<Items<Nam
 {
     let mut all = Items::new(alloc);
     'parts: for e in processes {
-        all.push(e.name.copy(alloc)?)?;
+        keeping!(all; push_copy(alloc, &e.name, &mut all));
     }
     Ok(all)
 }
@@ -75,10 +75,13 @@ fn process_names(alloc: Global, processes: &[WalkedProcess]) -> Result<Items<Nam
 fn model(alloc: Global, walk: &Walk, links: &Links) -> Result<Model, AllocError>
     ensures { IfOk result (λ model. model ≡ model_of walk.now links.now) }
 {
+    let file = got!(Items::from_slice(alloc, walk.file.as_slice()));
+    let ports = keeping!(file; links.channels(alloc));
+    let events = keeping!(file, ports; first_events(alloc, walk.channels.as_slice()));
     Ok(Model {
-        file: Items::from_slice(alloc, walk.file.as_slice())?,
-        ports: links.channels(alloc)?,
-        events: first_events(alloc, walk.channels.as_slice())?,
+        file,
+        ports,
+        events,
     })
 }
 
@@ -89,9 +92,11 @@ fn names(alloc: Global, walk: &Walk) -> Result<Names, AllocError>
       channels = channel_names walk.now.channels;
     }) }
 {
+    let processes = got!(process_names(alloc, walk.processes.as_slice()));
+    let channels = keeping!(processes; channel_names(alloc, walk.channels.as_slice()));
     Ok(Names {
-        processes: process_names(alloc, walk.processes.as_slice())?,
-        channels: channel_names(alloc, walk.channels.as_slice())?,
+        processes,
+        channels,
     })
 }
 
@@ -106,7 +111,7 @@ fn assembled(
     ensures { IfOk result (λ bound. bound
         ≡ assembled (filed modules.entry) walk.now links.now numbered.now) }
 {
-    let model = model(alloc, walk, links)?;
+    let model = got!(model(alloc, walk, links));
     let instances = numbered.instances.as_slice();
     let names_of = numbered.functions.as_slice();
     let forms = walk.processes.as_slice();
@@ -211,11 +216,13 @@ fn held_in(
     ensures { IfOk result (λ all. all
         ≡ held_in (filed modules.entry) walk.now numbered.now bound.now) }
 {
-    let mut all = Items::from_vec(Vec::from_elem(alloc, Held::NOT_HELD, walk.channels.len())?);
+    let none = got!(Vec::from_elem(alloc, Held::NOT_HELD, walk.channels.len()));
+    let mut all = Items::from_vec(none);
     let instances = numbered.instances.as_slice();
     let processes = walk.processes.as_slice();
     'parts: for (place, e) in processes.iter().enumerate() {
-        hold_process(alloc, modules, instances, bound, place, e.form, &mut all)?;
+        let form = e.form;
+        keeping!(all; hold_process(alloc, modules, instances, bound, place, form, &mut all));
     }
     Ok(all)
 }
@@ -267,7 +274,7 @@ fn copied_names(alloc: Global, names: &[Name]) -> Result<Items<Name>, AllocError
 {
     let mut all = Items::new(alloc);
     'parts: for e in names {
-        all.push(e.copy(alloc)?)?;
+        keeping!(all; push_copy(alloc, e, &mut all));
     }
     Ok(all)
 }
@@ -297,7 +304,9 @@ fn port_pass(
         Some(refusal) => Err(ElabError::Refused(refusal)),
         None => {
             let numbered = number_all(alloc, modules, walk.instances.as_slice())?;
-            channel_pass(alloc, modules, walk, links, &numbered)
+            let answer = channel_pass(alloc, modules, walk, links, &numbered);
+            drop(numbered);
+            answer
         }
     }
 }

@@ -50,7 +50,7 @@ fn setups_calls(alloc: Global, view: View<'_>) -> Result<Items<usize>, AllocErro
 {
     let mut all = Items::new(alloc);
     'parts: for e in view.setups {
-        add_setup_calls(alloc, view, e, &mut all)?;
+        keeping!(all; add_setup_calls(alloc, view, e, &mut all));
     }
     Ok(all)
 }
@@ -118,9 +118,11 @@ impl Numbered {
     ) -> Result<(), AllocError>
         ensures { OnOk result (self.new ≡ numbered_with functions.now instance.now self.old) }
     {
-        let mut instance = copied(alloc, instance)?;
-        number_functions(self.functions.len(), functions, &mut instance.members)?;
-        add_functions(self.instances.len(), functions, &mut self.functions)?;
+        let mut instance = got!(copied(alloc, instance));
+        let first = self.functions.len();
+        keeping!(instance; number_functions(first, functions, &mut instance.members));
+        let number = self.instances.len();
+        keeping!(instance; add_functions(number, functions, &mut self.functions));
         self.instances.push(instance)
     }
 }
@@ -142,8 +144,8 @@ pub(crate) fn number_all(
         instances: Items::new(alloc),
     };
     'parts: for e in instances {
-        let functions = functions_in(alloc, modules.view(e.module_number))?;
-        all.add(alloc, functions.as_slice(), e)?;
+        let functions = keeping!(all; functions_in(alloc, modules.view(e.module_number)));
+        keeping!(all, functions; all.add(alloc, functions.as_slice(), e));
     }
     Ok(all)
 }

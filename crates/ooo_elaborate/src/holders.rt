@@ -4,6 +4,7 @@ ghost use Rattle.ooo_elaborate.specs.Holders.{channel_refusal, functions_hold, h
 ghost use Rattle.ooo_elaborate.specs.Holders.{meant_holds, name_in, refusal_at, refusal_by};
 ghost use Rattle.ooo_elaborate.specs.Holding.{holds, with_holder};
 
+use crate::bindings::push_copy;
 use crate::ends::hold_body;
 use ooo_bound::BoundFunction;
 use ooo_constants::Meaning;
@@ -141,9 +142,11 @@ fn refusal_by(
         return Ok(None);
     };
     let mut names = Items::new(alloc);
-    names.push(channel.name.copy(alloc)?)?;
-    names.push(name_of(alloc, processes, first)?)?;
-    names.push(name_of(alloc, processes, second)?)?;
+    keeping!(names; push_copy(alloc, &channel.name, &mut names));
+    let name = keeping!(names; name_of(alloc, processes, first));
+    keeping!(names; names.push(name));
+    let name = keeping!(names; name_of(alloc, processes, second));
+    keeping!(names; names.push(name));
     Ok(Some(Refusal {
         what,
         at: channel.at,

@@ -116,11 +116,12 @@ fn clock_body(
 ) -> Result<Items<BoundStat>, AllocError>
     ensures { IfOk result (λ body. body ≡ clock_body channel half line) }
 {
-    let steps = with_step(alloc, Items::new(alloc), line, clock_write(channel, true))?;
-    let steps = with_step(alloc, steps, line, clock_wait(alloc, half))?;
-    let steps = with_step(alloc, steps, line, clock_write(channel, false))?;
-    let steps = with_step(alloc, steps, line, clock_wait(alloc, half))?;
-    let turn = Boxed::new(alloc, BoundStat::Block(steps))?;
+    let steps = Items::new(alloc);
+    let steps = got!(with_step(alloc, steps, line, clock_write(channel, true)));
+    let steps = got!(with_step(alloc, steps, line, clock_wait(alloc, half)));
+    let steps = got!(with_step(alloc, steps, line, clock_write(channel, false)));
+    let steps = got!(with_step(alloc, steps, line, clock_wait(alloc, half)));
+    let turn = got!(Boxed::new(alloc, BoundStat::Block(steps)));
     let test = keeping!(turn; Boxed::new(alloc, BoundExpr::Constant(Value::Bool(true))));
     let mut body = Items::new(alloc);
     keeping!(body; body.push(BoundStat::Do(line, turn, test)));
@@ -195,10 +196,10 @@ fn registered(
         ≡ registered_of model.now (viewed view.entry) members.now kind place function) }
 {
     let numbers = numbers(model, members);
-    let body = stats(alloc, numbers, body_in(view.function(function)))?;
+    let body = got!(stats(alloc, numbers, body_in(view.function(function))));
     let said = behind(view.setups, place);
     let mut sensitive = Items::new(alloc);
-    add_sensitive(numbers, said, &mut sensitive)?;
+    keeping!(body, sensitive; add_sensitive(numbers, said, &mut sensitive));
     Ok(BoundProcess {
         kind,
         body,
@@ -221,7 +222,7 @@ fn process(
     match form {
         ProcessForm::Clock(channel, half, line) => Ok(BoundProcess {
             kind: ProcessKind::Thread,
-            body: clock_body(alloc, channel, half, line)?,
+            body: got!(clock_body(alloc, channel, half, line)),
             sensitive: Items::new(alloc),
             initialize: true,
         }),
@@ -258,7 +259,8 @@ pub(crate) fn all_processes(
 {
     let mut all = Items::new(alloc);
     'parts: for e in processes {
-        all.push(process(alloc, modules, model, instances, e.form)?)?;
+        let process = keeping!(all; process(alloc, modules, model, instances, e.form));
+        keeping!(all; all.push(process));
     }
     Ok(all)
 }
@@ -269,7 +271,7 @@ fn kinds_of(alloc: Global, params: &[CheckedParam]) -> Result<Items<Kind>, Alloc
 {
     let mut all = Items::new(alloc);
     'parts: for e in params {
-        all.push(kind_written(e.form.form))?;
+        keeping!(all; all.push(kind_written(e.form.form)));
     }
     Ok(all)
 }
@@ -295,11 +297,16 @@ fn function(
         ≡ function_of model.now members.now (option_copied function.entry)) }
 {
     match function {
-        Some(function) => Ok(BoundFunction {
-            result: result_of(function.result),
-            params: kinds_of(alloc, function.params.as_slice())?,
-            body: stats(alloc, numbers(model, members), function.body.as_slice())?,
-        }),
+        Some(function) => {
+            let params = got!(kinds_of(alloc, function.params.as_slice()));
+            let numbers = numbers(model, members);
+            let body = keeping!(params; stats(alloc, numbers, function.body.as_slice()));
+            Ok(BoundFunction {
+                result: result_of(function.result),
+                params,
+                body,
+            })
+        }
         None => Ok(BoundFunction {
             result: None,
             params: Items::new(alloc),
@@ -346,7 +353,8 @@ pub(crate) fn all_functions(
 {
     let mut all = Items::new(alloc);
     'parts: for e in functions {
-        all.push(walked_function(alloc, modules, model, instances, *e)?)?;
+        let function = keeping!(all; walked_function(alloc, modules, model, instances, *e));
+        keeping!(all; all.push(function));
     }
     Ok(all)
 }
