@@ -20,6 +20,16 @@ macro_rules! keeping {
     };
 }
 
+// The same where no value has to be let go: of a `?`, the walk of a large value costs twice as much.
+macro_rules! got {
+    ($made:expr) => {
+        match $made {
+            Ok(made) => made,
+            Err(error) => return Err(error),
+        }
+    };
+}
+
 mod checked;
 pub mod law;
 mod modules;

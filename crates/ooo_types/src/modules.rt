@@ -73,14 +73,12 @@ pub(crate) fn facts(alloc: Global, declared: &Module) -> Result<ModuleFacts, All
     ensures { IfOk result (λ facts. facts ≡ facts_of declared.now) }
 {
     let mut names = Scopes::new(alloc);
-    names.enter()?;
-    declare_members(
-        0,
-        declared.members.as_slice(),
-        &mut names,
-        &mut Notes::new(alloc),
-    )?;
-    let params = params_count(declared.members.as_slice());
+    keeping!(names; names.enter());
+    let members = declared.members.as_slice();
+    let mut notes = Notes::new(alloc);
+    keeping!(names, notes; declare_members(0, members, &mut names, &mut notes));
+    drop(notes);
+    let params = params_count(members);
     Ok(ModuleFacts { names, params })
 }
 
@@ -107,8 +105,8 @@ fn initialised(alloc: Global, members: &Items<Member>) -> Result<Scopes, AllocEr
     ensures { IfOk result (λ names. names ≡ initialised_by members.now (entered [])) }
 {
     let mut names = Scopes::new(alloc);
-    names.enter()?;
-    declare_initialised(members, &mut names)?;
+    keeping!(names; names.enter());
+    keeping!(names; declare_initialised(members, &mut names));
     Ok(names)
 }
 

@@ -31,7 +31,7 @@ fn all_edges(alloc: Global, functions: &Items<FunctionFacts>) -> Result<Items<Ed
 {
     let mut edges = Items::new(alloc);
     'parts: for e in functions.as_slice() {
-        add_edges(e, &mut edges)?;
+        keeping!(edges; add_edges(e, &mut edges));
     }
     Ok(edges)
 }
@@ -137,7 +137,7 @@ pub(crate) fn note_functions(
         (all_edges functions.now) sofar.now.registered functions.now)) }
 {
     let edges = all_edges(alloc, functions)?;
-    let calls = Calls::make(alloc, edges.as_slice())?;
+    let calls = keeping!(edges; Calls::make(alloc, edges.as_slice()));
     note_each(&calls, edges.len(), sofar, functions, notes);
     Ok(())
 }

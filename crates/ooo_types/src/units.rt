@@ -95,8 +95,8 @@ fn constant(
     ensures notes { OnOk result (notes.new
         ≡ noted notes.old (constant_of outside thing constant.now scopes.old).notes) }
 {
-    let name = own(alloc, outside, thing, &constant.name, scopes)?;
-    let tree = constant_named(alloc, name, constant, scopes, notes)?;
+    let name = got!(own(alloc, outside, thing, &constant.name, scopes));
+    let tree = got!(constant_named(alloc, name, constant, scopes, notes));
     declared(tree, outside, thing, &constant.name, scopes, notes)
 }
 
@@ -130,14 +130,9 @@ fn constant_item(
         ≡ noted notes.old (constant_item_of declared_constant.now file.old).notes) }
 {
     let thing = Thing::FileConstant(kind_written(declared_constant.form.form));
-    let tree = constant(alloc, 0, thing, declared_constant, &mut file.scope, notes)?;
-    match add_nothing(file) {
-        Ok(()) => Ok(tree),
-        Err(error) => {
-            drop(tree);
-            Err(error)
-        }
-    }
+    let tree = got!(constant(alloc, 0, thing, declared_constant, &mut file.scope, notes));
+    keeping!(tree; add_nothing(file));
+    Ok(tree)
 }
 
 // A module of the file.
@@ -153,27 +148,22 @@ fn module_item(
     ensures notes { OnOk result (notes.new
         ≡ noted notes.old (module_item_of declared_module file.old).notes) }
 {
-    let facts = facts(alloc, &declared_module)?;
-    let word = copy_word(alloc, &declared_module.name)?;
+    let facts = keeping!(declared_module; facts(alloc, &declared_module));
+    let word = keeping!(declared_module, facts; copy_word(alloc, &declared_module.name));
     let thing = Thing::Module(params_count(declared_module.members.as_slice()));
-    let name = own(alloc, 0, thing, &word, &file.scope)?;
+    let name = keeping!(
+        declared_module, facts, word;
+        own(alloc, 0, thing, &word, &file.scope)
+    );
     let modules = file.modules.as_slice();
-    let tree = module(
-        alloc,
-        modules,
-        name,
-        declared_module,
-        &mut file.scope,
-        notes,
-    )?;
-    let tree = declared(tree, 0, thing, &word, &mut file.scope, notes)?;
-    match add_name(file, Some(facts)) {
-        Ok(()) => Ok(tree),
-        Err(error) => {
-            drop(tree);
-            Err(error)
-        }
-    }
+    let tree = keeping!(
+        facts, word;
+        module(alloc, modules, name, declared_module, &mut file.scope, notes)
+    );
+    let tree = keeping!(facts, word; declared(tree, 0, thing, &word, &mut file.scope, notes));
+    drop(word);
+    keeping!(tree; add_name(file, Some(facts)));
+    Ok(tree)
 }
 
 // A declaration of the file.
@@ -193,10 +183,10 @@ fn item(
         UnitItem::Constant(c) => {
             let tree = constant_item(alloc, file, &c, notes);
             drop(c);
-            Ok(CheckedUnitItem::Constant(tree?))
+            Ok(CheckedUnitItem::Constant(got!(tree)))
         }
         UnitItem::Module(m) => {
-            let m = module_item(alloc, file, m, notes)?;
+            let m = got!(module_item(alloc, file, m, notes));
             Ok(CheckedUnitItem::Module(m))
         }
     }
@@ -214,10 +204,11 @@ fn items(
     ensures notes { OnOk result (notes.new
         ≡ noted notes.old (items_of items file.old).notes) }
 {
+    let mut rest = got!(reversed(alloc, items));
     let mut all = Items::new(alloc);
-    let mut rest = reversed(alloc, items)?;
     'parts: while let Some(e) = rest.pop() {
-        all.push(item(alloc, file, e, notes)?)?;
+        let item = keeping!(rest, all; item(alloc, file, e, notes));
+        keeping!(rest, all; all.push(item));
     }
     Ok(all)
 }
@@ -238,12 +229,15 @@ fn channel(
         ≡ noted notes.old (channel_of outside channel.now scopes.old).notes) }
 {
     let thing = channel_thing(channel.channel, kind_written(channel.form.form));
-    let name = own(alloc, outside, thing, &channel.name, scopes)?;
+    let name = got!(own(alloc, outside, thing, &channel.name, scopes));
     let form = PartForm {
         thing,
         params: None,
     };
-    let args = option_args(alloc, form, &channel.name, &channel.args, scopes, notes)?;
+    let args = keeping!(
+        name;
+        option_args(alloc, form, &channel.name, &channel.args, scopes, notes)
+    );
     let tree = CheckedMainChannel {
         channel: channel.channel,
         form: channel.form,
@@ -282,11 +276,11 @@ fn instance(
     ensures notes { OnOk result (notes.new ≡ noted notes.old
         (instance_of outside module_word.now word.now given.now scopes.old).notes) }
 {
-    let module = resolve(alloc, scopes, module_word)?;
+    let module = got!(resolve(alloc, scopes, module_word));
     let thing = instance_thing(module.denotes, scopes);
-    let name = own(alloc, outside, thing, word, scopes)?;
+    let name = keeping!(module; own(alloc, outside, thing, word, scopes));
     note_instance(&module, word, given.as_slice(), notes);
-    let args = args(alloc, given, scopes, notes)?;
+    let args = keeping!(module, name; args(alloc, given, scopes, notes));
     let tree = CheckedMainItem::Instance(module, name, args);
     declared(tree, outside, thing, word, scopes, notes)
 }
@@ -310,9 +304,9 @@ fn clock(
     ensures notes { OnOk result (notes.new ≡ noted notes.old
         (clock_of outside at word.now text.now period.now scopes.old).notes) }
 {
-    let name = own(alloc, outside, Thing::Clock, word, scopes)?;
-    let text = copy_text(alloc, text)?;
-    let time = constant_time(alloc, period, scopes, notes)?;
+    let name = got!(own(alloc, outside, Thing::Clock, word, scopes));
+    let text = keeping!(name; copy_text(alloc, text));
+    let time = keeping!(name, text; constant_time(alloc, period, scopes, notes));
     let tree = CheckedMainItem::Clock(at, name, text, time);
     declared(tree, outside, Thing::Clock, word, scopes, notes)
 }
@@ -336,11 +330,11 @@ fn main_item(
     match item {
         MainItem::Constant(c) => {
             let thing = Thing::MainConstant(kind_written(c.form.form));
-            let c = constant(alloc, outside, thing, c, scopes, notes)?;
+            let c = got!(constant(alloc, outside, thing, c, scopes, notes));
             Ok(CheckedMainItem::Constant(c))
         }
         MainItem::Channel(c) => {
-            let c = channel(alloc, outside, c, scopes, notes)?;
+            let c = got!(channel(alloc, outside, c, scopes, notes));
             Ok(CheckedMainItem::Channel(c))
         }
         MainItem::Clock(at, word, text, period) => {
@@ -350,7 +344,7 @@ fn main_item(
             instance(alloc, outside, module_word, word, given, scopes, notes)
         }
         MainItem::Bind(b) => {
-            let b = binding(alloc, modules, b, scopes, notes)?;
+            let b = got!(binding(alloc, modules, b, scopes, notes));
             Ok(CheckedMainItem::Bind(b))
         }
     }
@@ -374,7 +368,8 @@ fn main_items(
 {
     let mut all = Items::new(alloc);
     'parts: for e in items.as_slice() {
-        all.push(main_item(alloc, modules, outside, e, scopes, notes)?)?;
+        let item = keeping!(all; main_item(alloc, modules, outside, e, scopes, notes));
+        keeping!(all; all.push(item));
     }
     Ok(all)
 }
@@ -460,14 +455,20 @@ fn main(
     ensures notes { OnOk result (notes.new ≡ noted notes.old (main_of main.now file.old).notes) }
 {
     let outside = file.scope.size();
-    file.scope.enter()?;
-    let count = parameter(alloc, outside, &main.count, &mut file.scope, notes)?;
-    let values = values(alloc, outside, &main.values, &mut file.scope, notes)?;
+    got!(file.scope.enter());
+    let count = got!(parameter(alloc, outside, &main.count, &mut file.scope, notes));
+    let values = keeping!(count; values(alloc, outside, &main.values, &mut file.scope, notes));
     let outside = file.scope.size();
-    file.scope.enter()?;
+    keeping!(count, values; file.scope.enter());
     let modules = file.modules.as_slice();
-    let items = main_items(alloc, modules, outside, &main.items, &mut file.scope, notes)?;
-    let start = option_start_form(alloc, &main.start, &file.scope, notes)?;
+    let items = keeping!(
+        count, values;
+        main_items(alloc, modules, outside, &main.items, &mut file.scope, notes)
+    );
+    let start = keeping!(
+        count, values, items;
+        option_start_form(alloc, &main.start, &file.scope, notes)
+    );
     Ok(CheckedMain {
         count,
         values,

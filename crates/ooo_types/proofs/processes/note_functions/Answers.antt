@@ -9,7 +9,7 @@ use Rattle.ooo_types.proofs.processes.note_functions.Goals as goal
 pub returns : goal.returns
 returns c =
     let fs : List FunctionFacts = c.args.functions.now in
-    let calls : c.in_ok-calls.calls ≡ all_edges fs = c.in_ok-calls.ensures ∙ c.as_slice.ensures ∙ c.in_ok-edges.ensures in
+    let calls : c.in-Ok.made ≡ all_edges fs = c.in-Ok.ensures ∙ c.as_slice.ensures ∙ c.in_ok-edges.ensures in
     c.note_each.ensures
     ∙ ap (λ es. noted c.args.notes.now (functions_from es c.args.sofar.now.registered 0 fs)) calls
     ∙ ap (λ ns. noted c.args.notes.now ns) (from_the_first c.args.sofar.now.registered fs)

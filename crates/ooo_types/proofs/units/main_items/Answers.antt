@@ -13,12 +13,12 @@ parts-preserved c =
     let xs : List MainItem = c.as_slice-e-items.result.now in
     let f : MainItem → Scope → Stepped CheckedMainItem = λ x s. main_item_of c.args.modules.now c.args.outside x s in
     let whole : Stepped (List CheckedMainItem) = main_items_of c.args.modules.now c.args.outside xs c.args.scopes.now in record {
-      trees = ordered_trees f c.parts.all c.push.new.self xs c.parts.e-index c.e-item.result c.in_ok-main_item.field-0
-          c.parts.scopes c.main_item.new.scopes whole.tree c.parts-test.true c.e-item.is c.in_ok-main_item.ensures.tree
-          c.in_ok-main_item.ensures.scope c.in_ok-push.ensures.ok c.parts.invariant.trees;
+      trees = ordered_trees f c.parts.all c.push.new.self xs c.parts.e-index c.e-item.result c.in-Ok.made
+          c.parts.scopes c.main_item.new.scopes whole.tree c.parts-test.true c.e-item.is c.in-Ok.ensures.tree
+          c.in-Ok.ensures.scope c.in-Ok-push.ensures.ok c.parts.invariant.trees;
       scope = ordered_scope f xs c.parts.e-index c.e-item.result c.parts.scopes c.main_item.new.scopes whole.scope
-          c.parts-test.true c.e-item.is c.in_ok-main_item.ensures.scope c.parts.invariant.scope;
+          c.parts-test.true c.e-item.is c.in-Ok.ensures.scope c.parts.invariant.scope;
       notes = ordered_notes f c.parts.notes c.main_item.new.notes (noted c.args.notes.now whole.notes) xs c.parts.e-index
           c.e-item.result c.parts.scopes c.main_item.new.scopes c.parts-test.true c.e-item.is
-          c.in_ok-main_item.ensures.scope c.in_ok-main_item.ensures.notes c.parts.invariant.notes;
+          c.in-Ok.ensures.scope c.in-Ok.ensures.notes c.parts.invariant.notes;
     }
