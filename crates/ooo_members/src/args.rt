@@ -82,12 +82,10 @@ pub fn constant_time(
     match time {
         TimeForm::Zero(at) => Ok(CheckedTime::Zero(*at)),
         TimeForm::Made(at, amount, scale) => {
-            let amount = constant(alloc, amount, scopes, notes)?;
-            Ok(CheckedTime::Made(*at, amount, *scale))
+            with_part!(a = constant(alloc, amount, scopes, notes); CheckedTime::Made(*at, a, *scale))
         }
         TimeForm::Amount(amount, scale) => {
-            let amount = constant(alloc, amount, scopes, notes)?;
-            Ok(CheckedTime::Amount(amount, *scale))
+            with_part!(a = constant(alloc, amount, scopes, notes); CheckedTime::Amount(a, *scale))
         }
     }
 }
@@ -107,14 +105,12 @@ pub fn arg(
     ensures notes { OnOk result (notes.new ≡ noted notes.old (arg_of arg.now scopes.now).notes) }
 {
     match arg {
-        Arg::Text(text) => Ok(CheckedArg::Text(copy_text(alloc, text)?)),
+        Arg::Text(text) => with_part!(copy = copy_text(alloc, text); CheckedArg::Text(copy)),
         Arg::Time(time) => {
-            let time = constant_time(alloc, time.get(), scopes, notes)?;
-            Ok(CheckedArg::Time(time))
+            with_part!(t = constant_time(alloc, time.get(), scopes, notes); CheckedArg::Time(t))
         }
         Arg::Value(e) => {
-            let value = constant(alloc, e.get(), scopes, notes)?;
-            Ok(CheckedArg::Value(value))
+            with_part!(value = constant(alloc, e.get(), scopes, notes); CheckedArg::Value(value))
         }
     }
 }
@@ -136,7 +132,8 @@ pub fn args(
 {
     let mut all = Items::new(alloc);
     'parts: for e in args.as_slice() {
-        all.push(arg(alloc, e, scopes, notes)?)?;
+        let made = keeping!(all; arg(alloc, e, scopes, notes));
+        keeping!(all; all.push(made));
     }
     Ok(all)
 }

@@ -37,7 +37,7 @@ pub fn name(
 {
     let copy = copy_word(alloc, word)?;
     let denotes = denotation(outside, thing, scopes);
-    declare(outside, thing, word, scopes, notes)?;
+    keeping!(copy; declare(outside, thing, word, scopes, notes));
     Ok(Resolved {
         word: copy,
         denotes,
@@ -86,7 +86,8 @@ pub fn params(
 {
     let mut all = Items::new(alloc);
     'parts: for e in params.as_slice() {
-        all.push(param(alloc, outside, e, scopes, notes)?)?;
+        let made = keeping!(all; param(alloc, outside, e, scopes, notes));
+        keeping!(all; all.push(made));
     }
     Ok(all)
 }
@@ -121,10 +122,10 @@ pub fn function(
 {
     let name = resolve(alloc, scopes, &function.name)?;
     let context = function_context(function, scopes);
-    scopes.enter()?;
-    let params = params(alloc, context.outside, &function.params, scopes, notes)?;
-    scopes.enter()?;
-    let body = stats(alloc, context, &function.body, scopes, notes)?;
+    keeping!(name; scopes.enter());
+    let params = keeping!(name; params(alloc, context.outside, &function.params, scopes, notes));
+    keeping!(name, params; scopes.enter());
+    let body = keeping!(name, params; stats(alloc, context, &function.body, scopes, notes));
     scopes.leave();
     scopes.leave();
     Ok(CheckedFunction {
@@ -162,11 +163,15 @@ fn noted_since(
       triggers = drop triggers notes.now.triggers;
     }) }
 {
+    let calls = got!(Items::from_slice(alloc, tail(notes.calls.as_slice(), calls)));
+    let waits = keeping!(calls; Items::from_slice(alloc, tail(notes.waits.as_slice(), waits)));
+    let triggers = tail(notes.triggers.as_slice(), triggers);
+    let triggers = keeping!(calls, waits; Items::from_slice(alloc, triggers));
     Ok(FunctionFacts {
         number,
-        calls: Items::from_slice(alloc, tail(notes.calls.as_slice(), calls))?,
-        waits: Items::from_slice(alloc, tail(notes.waits.as_slice(), waits))?,
-        triggers: Items::from_slice(alloc, tail(notes.triggers.as_slice(), triggers))?,
+        calls,
+        waits,
+        triggers,
     })
 }
 
@@ -194,6 +199,7 @@ pub fn known_function(
     let waits = notes.waits.len();
     let triggers = notes.triggers.len();
     let tree = function(alloc, declared, scopes, notes)?;
-    functions.push(noted_since(alloc, number, calls, waits, triggers, notes)?)?;
+    let facts = keeping!(tree; noted_since(alloc, number, calls, waits, triggers, notes));
+    keeping!(tree; functions.push(facts));
     Ok(tree)
 }

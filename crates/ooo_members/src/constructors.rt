@@ -19,8 +19,8 @@ use ooo_bodies::copies::copy_word;
 use ooo_bodies::exprs::expr;
 use ooo_bodies::notes::Notes;
 use ooo_checked::{
-    CheckedConstructor, CheckedInit, CheckedParam, CheckedSetup, Denotation, Resolved, Thing,
-    TypeBreach,
+    CheckedArg, CheckedConstructor, CheckedInit, CheckedParam, CheckedSetup, Denotation, Resolved,
+    Thing, TypeBreach,
 };
 use ooo_lexer::Position;
 use ooo_scopes::Scopes;
@@ -101,8 +101,9 @@ fn note_name_due(
     if names_module(e, scopes) {
         return Ok(());
     }
-    let tree = expr(alloc, e, scopes, notes)?;
+    let tree = got!(expr(alloc, e, scopes, notes));
     notes.breaks(TypeBreach::WrongKind, tree.first());
+    drop(tree);
     Ok(())
 }
 
@@ -117,11 +118,13 @@ fn note_own_name(
     ensures { OnOk result (notes.new ≡ noted notes.old (own_name_notes args.now at scopes.now)) }
 {
     match args {
-        [Arg::Text(_)] => {}
-        [Arg::Value(e)] => note_name_due(alloc, e.get(), scopes, notes)?,
-        _ => notes.breaks(TypeBreach::WrongCount, at),
+        [Arg::Text(_)] => Ok(()),
+        [Arg::Value(e)] => note_name_due(alloc, e.get(), scopes, notes),
+        _ => {
+            notes.breaks(TypeBreach::WrongCount, at);
+            Ok(())
+        }
     }
-    Ok(())
 }
 
 // Whether a word is `sc_module`.
@@ -129,6 +132,20 @@ fn is_own_name(word: &Word) -> bool
     ensures { result ≡ is_own_name word.now }
 {
     word.name.as_bytes() == b"sc_module".as_slice()
+}
+
+// Arguments of which nothing is noted.
+fn args_unnoted(
+    alloc: Global,
+    given: &Items<Arg>,
+    scopes: &Scopes,
+) -> Result<Items<CheckedArg>, AllocError>
+    ensures { IfOk result (λ all. all ≡ trees (args_of given.now scopes.now)) }
+{
+    let mut notes = Notes::new(alloc);
+    let all = args(alloc, given, scopes, &mut notes);
+    drop(notes);
+    all
 }
 
 // The initialiser of `sc_module`.
@@ -152,9 +169,9 @@ fn own_init(
         scopes,
         notes,
     )?;
-    let args = args(alloc, &init.args, scopes, &mut Notes::new(alloc))?;
+    let args = got!(args_unnoted(alloc, &init.args, scopes));
     let name = Resolved {
-        word: copy_word(alloc, &init.name)?,
+        word: keeping!(args; copy_word(alloc, &init.name)),
         denotes: UNKNOWN,
     };
     Ok(CheckedInit { name, args })
@@ -179,9 +196,9 @@ fn init(
         return own_init(alloc, init, scopes, notes);
     }
     note_member_init(modules, init, denotes.thing, notes);
-    let args = args(alloc, &init.args, scopes, notes)?;
+    let args = got!(args(alloc, &init.args, scopes, notes));
     let name = Resolved {
-        word: copy_word(alloc, &init.name)?,
+        word: keeping!(args; copy_word(alloc, &init.name)),
         denotes,
     };
     Ok(CheckedInit { name, args })
@@ -198,7 +215,8 @@ fn denotations(
 {
     let mut all = Items::new(alloc);
     'parts: for e in inits.as_slice() {
-        all.push(scopes.denotes(e.name.name.as_bytes()))?;
+        let denotes = scopes.denotes(e.name.name.as_bytes());
+        keeping!(all; all.push(denotes));
     }
     Ok(all)
 }
@@ -232,7 +250,8 @@ fn inits(
     let mut i = 0;
     'parts: for e in inits.as_slice() {
         let denotes = meant(denotations, i);
-        all.push(init(alloc, modules, denotes, e, scopes, notes)?)?;
+        let made = keeping!(all; init(alloc, modules, denotes, e, scopes, notes));
+        keeping!(all; all.push(made));
         i += 1;
     }
     Ok(all)
@@ -303,7 +322,7 @@ fn read_head(
         scopes,
         notes,
     )?;
-    let params = params(alloc, outside, all.others, scopes, notes)?;
+    let params = keeping!(own_name; params(alloc, outside, all.others, scopes, notes));
     Ok(Head { own_name, params })
 }
 
@@ -338,14 +357,14 @@ impl Surroundings<'_> {
             scopes,
             notes,
         )?;
-        let setups = setups(
+        let setups = keeping!(inits; setups(
             self.alloc,
             self.modules,
             text.statements,
             scopes,
             sofar,
             notes,
-        )?;
+        ));
         sofar.has_constructor = true;
         Ok(Inside { inits, setups })
     }
@@ -371,9 +390,10 @@ impl Surroundings<'_> {
         ensures scope { OnOk result (scopes.new ≡ scopes.old) }
     {
         let names = denotations(self.alloc, text.inits, scopes)?;
-        let word = copy_word(self.alloc, text.word)?;
-        scopes.enter()?;
-        let inside = self.inside(&names, text, scopes, sofar, notes)?;
+        let word = keeping!(names; copy_word(self.alloc, text.word));
+        keeping!(names, word; scopes.enter());
+        let inside = keeping!(names, word; self.inside(&names, text, scopes, sofar, notes));
+        drop(names);
         scopes.leave();
         Ok(CheckedConstructor::Named(word, inside.inits, inside.setups))
     }
@@ -401,9 +421,10 @@ impl Surroundings<'_> {
         ensures scope { OnOk result (scopes.new ≡ scopes.old) }
     {
         let names = denotations(self.alloc, text.inits, scopes)?;
-        let word = copy_word(self.alloc, text.word)?;
-        let head = read_head(self.alloc, params, scopes, notes)?;
-        let inside = self.inside(&names, text, scopes, sofar, notes)?;
+        let word = keeping!(names; copy_word(self.alloc, text.word));
+        let head = keeping!(names, word; read_head(self.alloc, params, scopes, notes));
+        let inside = keeping!(names, word, head; self.inside(&names, text, scopes, sofar, notes));
+        drop(names);
         scopes.leave();
         let Head { own_name, params } = head;
         Ok(CheckedConstructor::Written(word, own_name, params, inside.inits, inside.setups))

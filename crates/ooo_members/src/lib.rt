@@ -6,6 +6,39 @@
 //! constructors and what they set up, `Members` of all members; only memory can run out.
 #![tactic(auto)]
 
+// What is made while values that were made before are kept: where nothing is, they go.
+macro_rules! keeping {
+    ($($kept:ident),+; $made:expr) => {
+        match $made {
+            Ok(made) => made,
+            Err(error) => {
+                $(drop($kept);)+
+                return Err(error);
+            }
+        }
+    };
+}
+
+// What was made: of a `?`, the walk of a large value costs twice as much.
+macro_rules! got {
+    ($made:expr) => {
+        match $made {
+            Ok(made) => made,
+            Err(error) => return Err(error),
+        }
+    };
+}
+
+// A whole with the part that was made for it, or the failure of it.
+macro_rules! with_part {
+    ($part:ident = $made:expr; $whole:expr) => {
+        match $made {
+            Ok($part) => Ok($whole),
+            Err(error) => Err(error),
+        }
+    };
+}
+
 pub mod args;
 pub mod bodies;
 pub mod constructors;

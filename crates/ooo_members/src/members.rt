@@ -42,7 +42,7 @@ pub fn constant_named(
     ensures notes { OnOk result (notes.new
         ≡ noted notes.old (constant_named name declared.now scopes.now).notes) }
 {
-    let value = constant(alloc, declared.value.get(), scopes, notes)?;
+    let value = keeping!(name; constant(alloc, declared.value.get(), scopes, notes));
     Ok(CheckedConstant {
         is_static: declared.is_static,
         form: declared.form,
@@ -76,12 +76,10 @@ fn field_form(
     match form {
         FieldForm::Plain => Ok(CheckedFieldForm::Plain),
         FieldForm::Length(e) => {
-            let length = constant(alloc, e.get(), scopes, notes)?;
-            Ok(CheckedFieldForm::Length(length))
+            with_part!(length = constant(alloc, e.get(), scopes, notes); CheckedFieldForm::Length(length))
         }
         FieldForm::Value(e) => {
-            let value = constant(alloc, e.get(), scopes, notes)?;
-            Ok(CheckedFieldForm::Value(value))
+            with_part!(value = constant(alloc, e.get(), scopes, notes); CheckedFieldForm::Value(value))
         }
     }
 }
@@ -98,7 +96,7 @@ fn field(
         ≡ noted notes.old (field_of field.now scopes.now).notes) }
 {
     let name = resolve(alloc, scopes, &field.name)?;
-    let form = field_form(alloc, &field.form, scopes, notes)?;
+    let form = keeping!(name; field_form(alloc, &field.form, scopes, notes));
     Ok(CheckedField { name, form })
 }
 
@@ -135,7 +133,8 @@ fn field_list(
 {
     let mut all = Items::new(alloc);
     'parts: for e in fields.as_slice() {
-        all.push(field(alloc, e, scopes, notes)?)?;
+        let made = keeping!(all; field(alloc, e, scopes, notes));
+        keeping!(all; all.push(made));
     }
     Ok(all)
 }
@@ -146,7 +145,8 @@ fn names(alloc: Global, words: &Items<Word>, scopes: &Scopes) -> Result<Items<Re
 {
     let mut all = Items::new(alloc);
     'parts: for e in words.as_slice() {
-        all.push(resolve(alloc, scopes, e)?)?;
+        let made = keeping!(all; resolve(alloc, scopes, e));
+        keeping!(all; all.push(made));
     }
     Ok(all)
 }
@@ -201,7 +201,7 @@ fn part(
         ≡ noted notes.old (part_of form.thing form.params part.now scopes.now).notes) }
 {
     let name = resolve(alloc, scopes, &part.name)?;
-    let args = option_args(alloc, form, &part.name, &part.args, scopes, notes)?;
+    let args = keeping!(name; option_args(alloc, form, &part.name, &part.args, scopes, notes));
     Ok(CheckedPart { name, args })
 }
 
@@ -220,7 +220,8 @@ fn parts(
 {
     let mut all = Items::new(alloc);
     'parts: for e in parts.as_slice() {
-        all.push(part(alloc, form, e, scopes, notes)?)?;
+        let made = keeping!(all; part(alloc, form, e, scopes, notes));
+        keeping!(all; all.push(made));
     }
     Ok(all)
 }
@@ -315,7 +316,8 @@ fn child_list(
 {
     let mut all = Items::new(alloc);
     'parts: for e in parts.as_slice() {
-        all.push(child(alloc, initialised, form, e, scopes, notes)?)?;
+        let made = keeping!(all; child(alloc, initialised, form, e, scopes, notes));
+        keeping!(all; all.push(made));
     }
     Ok(all)
 }
@@ -341,7 +343,8 @@ fn children(
         thing: instance_thing(module_name.denotes, scopes),
         params: params_of_module(thing),
     };
-    let parts = child_list(alloc, initialised, form, &children.parts, scopes, notes)?;
+    let parts =
+        keeping!(module_name; child_list(alloc, initialised, form, &children.parts, scopes, notes));
     Ok(CheckedChildren { module_name, parts })
 }
 
@@ -356,8 +359,9 @@ pub fn reversed<T: Drop>(alloc: Global, items: Items<T>) -> Result<Items<T>, All
     let mut left = items;
     let mut all = Items::new(alloc);
     'parts: while let Some(item) = left.pop() {
-        all.push(item)?;
+        keeping!(all, left; all.push(item));
     }
+    drop(left);
     Ok(all)
 }
 
@@ -481,11 +485,13 @@ impl Surroundings<'_> {
         ensures functions { OnOk result (functions.new
             ≡ functions.old ++ functions_of members scopes.old) }
     {
-        let mut all = Items::new(self.alloc);
         let mut rest = reversed(self.alloc, members)?;
+        let mut all = Items::new(self.alloc);
         'parts: while let Some(e) = rest.pop() {
-            all.push(self.taken(e, scopes, sofar, functions, notes)?)?;
+            let made = keeping!(all, rest; self.taken(e, scopes, sofar, functions, notes));
+            keeping!(all, rest; all.push(made));
         }
+        drop(rest);
         Ok(all)
     }
 }

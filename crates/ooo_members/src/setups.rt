@@ -86,8 +86,8 @@ pub fn binding(
         ≡ noted notes.old (binding_of modules.now binding.now scopes.now).notes) }
 {
     let instance = resolve(alloc, scopes, &binding.instance)?;
-    let port = port(alloc, modules, instance.denotes.thing, &binding.port)?;
-    let channel = resolve(alloc, scopes, &binding.channel)?;
+    let port = keeping!(instance; port(alloc, modules, instance.denotes.thing, &binding.port));
+    let channel = keeping!(instance, port; resolve(alloc, scopes, &binding.channel));
     let is_known = instance.denotes.thing.is_known();
     notes.breaks_when(
         !is_known,
@@ -154,7 +154,7 @@ fn set(
     let name = resolve(alloc, scopes, word)?;
     let thing = name.denotes.thing;
     notes.name(thing, is_variable(thing), word.position);
-    let value = constant_right(alloc, e, scopes, notes)?;
+    let value = keeping!(name; constant_right(alloc, e, scopes, notes));
     Ok(CheckedSetup::Set(name, value))
 }
 
@@ -205,25 +205,27 @@ pub fn setup(
 {
     match statement {
         Setup::Thread(at, word) => {
-            let name = process(alloc, ProcessKind::Thread, word, scopes, sofar, notes)?;
-            Ok(CheckedSetup::Thread(*at, name))
+            with_part!(
+                name = process(alloc, ProcessKind::Thread, word, scopes, sofar, notes);
+                CheckedSetup::Thread(*at, name)
+            )
         }
         Setup::Method(at, word) => {
-            let name = process(alloc, ProcessKind::Method, word, scopes, sofar, notes)?;
-            Ok(CheckedSetup::Method(*at, name))
+            with_part!(
+                name = process(alloc, ProcessKind::Method, word, scopes, sofar, notes);
+                CheckedSetup::Method(*at, name)
+            )
         }
         Setup::Sensitive(at, on) => {
             note_after_process(sofar, *at, notes);
-            let on = events(alloc, true, on, scopes, notes)?;
-            Ok(CheckedSetup::Sensitive(*at, on))
+            with_part!(all = events(alloc, true, on, scopes, notes); CheckedSetup::Sensitive(*at, all))
         }
         Setup::DontInitialize(at) => {
             note_after_process(sofar, *at, notes);
             Ok(CheckedSetup::DontInitialize(*at))
         }
         Setup::Bind(b) => {
-            let b = binding(alloc, modules, b, scopes, notes)?;
-            Ok(CheckedSetup::Bind(b))
+            with_part!(bound = binding(alloc, modules, b, scopes, notes); CheckedSetup::Bind(bound))
         }
         Setup::Set(word, e) => set(alloc, word, e.get(), scopes, notes),
     }
@@ -251,7 +253,8 @@ pub fn setups(
 {
     let mut all = Items::new(alloc);
     'parts: for e in statements.as_slice() {
-        all.push(setup(alloc, modules, e, scopes, sofar, notes)?)?;
+        let made = keeping!(all; setup(alloc, modules, e, scopes, sofar, notes));
+        keeping!(all; all.push(made));
     }
     Ok(all)
 }

@@ -13,13 +13,13 @@ parts-preserved c =
     let xs : List Param = c.as_slice-e-items.result.now in
     let f : Param → Scope → Stepped CheckedParam = λ p s. param_of c.args.outside p s in
     let whole : Stepped (List CheckedParam) = params_of c.args.outside xs c.args.scopes.now in record {
-      trees = ordered_trees f c.parts.all c.push.new.self xs c.parts.e-index c.e-item.result c.in_ok-param.field-0
-          c.parts.scopes c.param.new.scopes whole.tree c.parts-test.true c.e-item.is c.in_ok-param.ensures.tree
-          c.in_ok-param.ensures.scope c.in_ok-push.ensures.ok c.parts.invariant.trees;
+      trees = ordered_trees f c.parts.all c.push.new.self xs c.parts.e-index c.e-item.result c.in-Ok.made
+          c.parts.scopes c.param.new.scopes whole.tree c.parts-test.true c.e-item.is c.in-Ok.ensures.tree
+          c.in-Ok.ensures.scope c.in-Ok-push.ensures.ok c.parts.invariant.trees;
       scope = ordered_scope f xs c.parts.e-index c.e-item.result c.parts.scopes c.param.new.scopes whole.scope
-          c.parts-test.true c.e-item.is c.in_ok-param.ensures.scope c.parts.invariant.scope;
+          c.parts-test.true c.e-item.is c.in-Ok.ensures.scope c.parts.invariant.scope;
       notes = ordered_notes f c.parts.notes c.param.new.notes (noted c.args.notes.now whole.notes) xs c.parts.e-index
           c.e-item.result c.parts.scopes c.param.new.scopes c.parts-test.true c.e-item.is
-          c.in_ok-param.ensures.scope c.in_ok-param.ensures.notes c.parts.invariant.notes;
-      outer = c.in_ok-param.ensures.outer ∙ c.parts.invariant.outer;
+          c.in-Ok.ensures.scope c.in-Ok.ensures.notes c.parts.invariant.notes;
+      outer = c.in-Ok.ensures.outer ∙ c.parts.invariant.outer;
     }

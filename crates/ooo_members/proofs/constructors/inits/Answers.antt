@@ -20,12 +20,12 @@ parts-preserved c =
     ∙ ap (λ o. unwrap_or o unknown) (slice_get-get_or ds c.parts.e-index d (rw c.parts.invariant.long c.parts-test.true)) in record {
       trees = zipped_trees c.args.modules.now c.args.scopes.now ds xs c.parts.e-index d c.e-item.result c.parts-test.true
           c.parts.invariant.long c.e-item.is denotes c.parts.all c.push.new.self
-          (trees (inits_with c.args.modules.now ds xs c.args.scopes.now)) c.in_ok-init.field-0 c.in_ok-init.ensures.tree
-          c.in_ok-push.ensures.ok c.parts.invariant.trees;
+          (trees (inits_with c.args.modules.now ds xs c.args.scopes.now)) c.in-Ok.made c.in-Ok.ensures.tree
+          c.in-Ok-push.ensures.ok c.parts.invariant.trees;
       notes = zipped_notes c.args.modules.now c.args.scopes.now ds xs c.parts.e-index d c.e-item.result c.parts-test.true
           c.parts.invariant.long c.e-item.is denotes c.parts.notes c.init.new.notes
           (noted c.args.notes.now (all_notes (inits_with c.args.modules.now ds xs c.args.scopes.now)))
-          c.in_ok-init.ensures.notes c.parts.invariant.notes;
+          c.in-Ok.ensures.notes c.parts.invariant.notes;
       place = ap (λ n. n + 1) c.parts.invariant.place;
       long = c.parts.invariant.long;
     }

@@ -10,8 +10,8 @@ pub parts-preserved : goal.parts-preserved
 parts-preserved c =
     let xs : List Part = c.as_slice-e-items.result.now in
     let f : Part → Checked CheckedPart = λ p. child_of c.args.initialised.now c.args.form.thing c.args.form.params p c.args.scopes.now in record {
-      trees = trees_step f c.parts.all c.push.new.self xs c.parts.e-index c.e-item.result c.in_ok-child.field-0
-          c.parts-test.true c.e-item.is c.in_ok-child.ensures.tree c.in_ok-push.ensures.ok c.parts.invariant.trees;
+      trees = trees_step f c.parts.all c.push.new.self xs c.parts.e-index c.e-item.result c.in-Ok.made
+          c.parts-test.true c.e-item.is c.in-Ok.ensures.tree c.in-Ok-push.ensures.ok c.parts.invariant.trees;
       notes = notes_step f c.args.notes.now c.parts.notes c.child.new.notes xs c.parts.e-index c.e-item.result
-          c.parts-test.true c.e-item.is c.in_ok-child.ensures.notes c.parts.invariant.notes;
+          c.parts-test.true c.e-item.is c.in-Ok.ensures.notes c.parts.invariant.notes;
     }

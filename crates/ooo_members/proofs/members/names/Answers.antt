@@ -9,5 +9,5 @@ pub parts-preserved : goal.parts-preserved
 parts-preserved c =
     let xs : List Word = c.as_slice-e-items.result.now in
     let f : Word → Resolved = λ w. resolved c.args.scopes.now w in
-    map_step f c.parts.all c.push.new.self xs c.parts.e-index c.e-item.result c.in_ok-resolve.field-0 c.parts-test.true c.e-item.is
-    c.in_ok-resolve.ensures c.in_ok-push.ensures.ok c.parts.invariant
+    map_step f c.parts.all c.push.new.self xs c.parts.e-index c.e-item.result c.in-Ok.made c.parts-test.true c.e-item.is
+    c.in-Ok.ensures c.in-Ok-push.ensures.ok c.parts.invariant

@@ -12,12 +12,12 @@ parts-preserved c =
     let xs : List Setup = c.as_slice-e-items.result.now in
     let f : Setup → Sofar → Turn Sofar CheckedSetup = λ x before. setup_of c.args.modules.now c.args.scopes.now x before in
     let whole : Turn Sofar (List CheckedSetup) = setups_of c.args.modules.now c.args.scopes.now xs c.args.sofar.now in record {
-      trees = turn_trees f c.parts.all c.push.new.self xs c.parts.e-index c.e-item.result c.in_ok-setup.field-0
-          c.parts.sofar c.setup.new.sofar whole.tree c.parts-test.true c.e-item.is c.in_ok-setup.ensures.tree
-          c.in_ok-setup.ensures.behind c.in_ok-push.ensures.ok c.parts.invariant.trees;
+      trees = turn_trees f c.parts.all c.push.new.self xs c.parts.e-index c.e-item.result c.in-Ok.made
+          c.parts.sofar c.setup.new.sofar whole.tree c.parts-test.true c.e-item.is c.in-Ok.ensures.tree
+          c.in-Ok.ensures.behind c.in-Ok-push.ensures.ok c.parts.invariant.trees;
       behind = turn_behind f xs c.parts.e-index c.e-item.result c.parts.sofar c.setup.new.sofar whole.behind
-          c.parts-test.true c.e-item.is c.in_ok-setup.ensures.behind c.parts.invariant.behind;
+          c.parts-test.true c.e-item.is c.in-Ok.ensures.behind c.parts.invariant.behind;
       notes = turn_notes f c.parts.notes c.setup.new.notes (noted c.args.notes.now whole.notes) xs c.parts.e-index
           c.e-item.result c.parts.sofar c.setup.new.sofar c.parts-test.true c.e-item.is
-          c.in_ok-setup.ensures.behind c.in_ok-setup.ensures.notes c.parts.invariant.notes;
+          c.in-Ok.ensures.behind c.in-Ok.ensures.notes c.parts.invariant.notes;
     }

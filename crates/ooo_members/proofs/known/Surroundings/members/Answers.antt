@@ -34,22 +34,22 @@ parts-preserved c =
     let whole : Turn Sofar (List CheckedMember) =
     members_of c.args.self.modules.now c.args.self.module_name.now c.args.self.initialised.now s xs c.args.sofar.now in
     let same : c.parts.scopes ≡ s = c.parts.invariant.scope in
-    let tree : c.in_ok-taken.field-0 ≡ (f c.in-Some.e c.parts.sofar).tree =
-    c.in_ok-taken.ensures.tree ∙ ap (λ u. (in_scope u c.in-Some.e c.parts.sofar).tree) same in
+    let tree : c.in-Ok.made ≡ (f c.in-Some.e c.parts.sofar).tree =
+    c.in-Ok.ensures.tree ∙ ap (λ u. (in_scope u c.in-Some.e c.parts.sofar).tree) same in
     let behind : c.taken.new.sofar ≡ (f c.in-Some.e c.parts.sofar).behind =
-    c.in_ok-taken.ensures.behind ∙ ap (λ u. (in_scope u c.in-Some.e c.parts.sofar).behind) same in
+    c.in-Ok.ensures.behind ∙ ap (λ u. (in_scope u c.in-Some.e c.parts.sofar).behind) same in
     let notes : c.taken.new.notes ≡ noted c.parts.notes (f c.in-Some.e c.parts.sofar).notes =
-    c.in_ok-taken.ensures.notes ∙ ap (λ u. noted c.parts.notes (in_scope u c.in-Some.e c.parts.sofar).notes) same in
+    c.in-Ok.ensures.notes ∙ ap (λ u. noted c.parts.notes (in_scope u c.in-Some.e c.parts.sofar).notes) same in
     let functions : c.taken.new.functions ≡ c.parts.functions ++ functions_in c.in-Some.e s =
-    c.in_ok-taken.ensures.functions ∙ ap (λ u. c.parts.functions ++ functions_in c.in-Some.e u) same in record {
-      trees = taken_trees f c.parts.all c.push.new.self c.parts.rest c.pop.new.self c.in-Some.e c.in_ok-taken.field-0
-          c.parts.sofar c.taken.new.sofar whole.tree c.in-Some.ensures tree behind c.in_ok-push.ensures.ok
+    c.in-Ok.ensures.functions ∙ ap (λ u. c.parts.functions ++ functions_in c.in-Some.e u) same in record {
+      trees = taken_trees f c.parts.all c.push.new.self c.parts.rest c.pop.new.self c.in-Some.e c.in-Ok.made
+          c.parts.sofar c.taken.new.sofar whole.tree c.in-Some.ensures tree behind c.in-Ok-push.ensures.ok
           c.parts.invariant.trees;
       behind = taken_behind f c.parts.rest c.pop.new.self c.in-Some.e c.parts.sofar c.taken.new.sofar whole.behind
           c.in-Some.ensures behind c.parts.invariant.behind;
       notes = taken_notes f c.parts.notes c.taken.new.notes (noted c.args.notes.now whole.notes) c.parts.rest
           c.pop.new.self c.in-Some.e c.parts.sofar c.taken.new.sofar c.in-Some.ensures behind notes c.parts.invariant.notes;
-      scope = c.in_ok-taken.ensures.scope ∙ same;
+      scope = c.in-Ok.ensures.scope ∙ same;
       functions = functions_step s c.parts.functions c.taken.new.functions (c.args.functions.now ++ functions_of xs s)
           c.parts.rest c.pop.new.self c.in-Some.e c.in-Some.ensures functions c.parts.invariant.functions;
     }
