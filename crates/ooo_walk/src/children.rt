@@ -35,7 +35,7 @@ pub(crate) fn args_evaluated(
     let mut all = Items::new(alloc);
     'parts: for e in args {
         if let CheckedArg::Value(e) = e {
-            all.push(evaluated(known, e))?;
+            keeping!(all; all.push(evaluated(known, e)));
         }
     }
     Ok(all)
@@ -62,7 +62,7 @@ fn values(
     let mut all = Items::new(alloc);
     'parts: for (place, e) in args.iter().enumerate() {
         let value = value_for(at(params, place), *e);
-        all.push(value)?;
+        keeping!(all; all.push(value));
     }
     Ok(all)
 }
@@ -87,6 +87,13 @@ pub(crate) fn entered(alloc: Global, name: Name, values: Items<Value>) -> Here
         statics: Items::new(alloc),
         members: Items::new(alloc),
     }
+}
+
+// What the names of an instance mean, of all that is known of it.
+fn members_of(known: Here) -> Items<Meaning>
+    ensures { result ≡ known.members }
+{
+    known.members
 }
 
 // The sort of port that a word means.
@@ -122,12 +129,14 @@ impl Walk {
     fn leave(&mut self, outer: Here, number: usize) -> Result<(), AllocError>
         ensures { OnOk result (self.new ≡ left_to outer number self.old) }
     {
-        let instance = narrow(self.instances.len())?;
-        let Here { members, .. } = mem::replace(&mut self.here, outer);
-        self.instances.push(WalkedInstance {
-            module_number: number,
-            members,
-        })?;
+        let instance = keeping!(outer; narrow(self.instances.len()));
+        let members = members_of(mem::replace(&mut self.here, outer));
+        got!(
+            self.instances.push(WalkedInstance {
+                module_number: number,
+                members,
+            })
+        );
         self.mean(Meaning::Instance(instance))
     }
 
@@ -147,12 +156,12 @@ impl Walk {
             (view_at (filed modules.entry) number) number
             word.now declared.now initial.now self.old) }
     {
-        let name = self.full_name(alloc, &word.name)?;
-        self.add_object(alloc, word.position, &name)?;
-        self.after_args(alloc, &name, declared)?;
-        self.after_args(alloc, &name, initial)?;
+        let name = got!(self.full_name(alloc, &word.name));
+        keeping!(name; self.add_object(alloc, word.position, &name));
+        keeping!(name; self.after_args(alloc, &name, declared));
+        keeping!(name; self.after_args(alloc, &name, initial));
         let view = modules.view(number);
-        let values = values(alloc, view.params, counting(declared, initial))?;
+        let values = keeping!(name; values(alloc, view.params, counting(declared, initial)));
         self.instance_of(alloc, levels, modules, number, entered(alloc, name, values))
     }
 
@@ -170,7 +179,7 @@ impl Walk {
             (inside_of levels (filed modules.entry)) number known self.old) }
     {
         let outer = mem::replace(&mut self.here, known);
-        self.inside(alloc, levels, modules, number)?;
+        keeping!(outer; self.inside(alloc, levels, modules, number));
         self.leave(outer, number)
     }
 
@@ -189,8 +198,7 @@ impl Walk {
         if levels == 0 {
             return Ok(());
         }
-        self.walked(alloc, levels - 1, modules, modules.view(number))?;
-        Ok(())
+        self.walked(alloc, levels - 1, modules, modules.view(number))
     }
 
     // An instance's members and then what its constructor sets up.
@@ -226,7 +234,7 @@ impl Walk {
     {
         'parts: for e in view.members {
             if self.refusal.is_none() {
-                self.member(alloc, levels, modules, view, e)?;
+                got!(self.member(alloc, levels, modules, view, e));
             }
         }
         Ok(())
@@ -288,7 +296,7 @@ impl Walk {
         let number = children.module_name.denotes.number;
         'parts: for e in children.parts.as_slice() {
             if self.refusal.is_none() {
-                self.child(alloc, levels, modules, view, number, e)?;
+                got!(self.child(alloc, levels, modules, view, number, e));
             }
         }
         Ok(())
@@ -309,8 +317,8 @@ impl Walk {
             (filed modules.entry) (viewed view.entry) number part.now self.old) }
     {
         let given = view.init_args(self.here.members.len());
-        let declared = args_evaluated(alloc, self.known(), args_given(&part.args))?;
-        let initial = args_evaluated(alloc, self.known(), given)?;
+        let declared = got!(args_evaluated(alloc, self.known(), args_given(&part.args)));
+        let initial = keeping!(declared; args_evaluated(alloc, self.known(), given));
         let word = &part.name.word;
         self.instance(
             alloc,
@@ -336,7 +344,7 @@ impl Walk {
         let kind = kind_written(fields.form.form);
         'parts: for e in fields.fields.as_slice() {
             if self.refusal.is_none() {
-                self.field(alloc, view, fields.is_const, kind, e)?;
+                got!(self.field(alloc, view, fields.is_const, kind, e));
             }
         }
         Ok(())
@@ -367,7 +375,7 @@ impl Walk {
         let kind = kind_written(channels.form.form);
         'parts: for e in channels.parts.as_slice() {
             if self.refusal.is_none() {
-                self.part(alloc, view, channels.channel, kind, e)?;
+                got!(self.part(alloc, view, channels.channel, kind, e));
             }
         }
         Ok(())

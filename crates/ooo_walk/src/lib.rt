@@ -4,6 +4,29 @@
 //! Proved: [`walk`] leaves what the definition `walk_of` in `specs/Texts` says, or memory runs out.
 #![tactic(auto)]
 
+// What is made while values that were made before are kept: where nothing is, they go.
+macro_rules! keeping {
+    ($($kept:ident),+; $made:expr) => {
+        match $made {
+            Ok(found) => found,
+            Err(error) => {
+                $(drop($kept);)+
+                return Err(error);
+            }
+        }
+    };
+}
+
+// What was made, or the failure of it: of a `?`, the walk of a large value costs twice as much.
+macro_rules! got {
+    ($made:expr) => {
+        match $made {
+            Ok(found) => found,
+            Err(error) => return Err(error),
+        }
+    };
+}
+
 mod children;
 mod main_items;
 mod members;

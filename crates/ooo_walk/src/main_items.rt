@@ -81,15 +81,15 @@ impl Walk {
         if period.0 == 0 || period.0 % 2 == 1 {
             return self.refuse(alloc, ElabBreach::OddClock, word.position, &word.name);
         }
-        let channel = narrow(self.channels.len())?;
+        let channel = got!(narrow(self.channels.len()));
         let form = ProcessForm::Clock(channel, Time(period.0 / 2), at.line);
-        self.add_process(alloc, form, word.position, &word.name)?;
+        got!(self.add_process(alloc, form, word.position, &word.name));
         let bound = BoundChannel {
             kind: ChannelKind::Signal,
             value: Kind::Bool,
             size: 0,
         };
-        let full = word.name.copy(alloc)?;
+        let full = got!(word.name.copy(alloc));
         self.add_channel(bound, true, word.position, full)
     }
 
@@ -211,7 +211,7 @@ impl Walk {
     {
         'parts: for e in items {
             if self.refusal.is_none() {
-                self.main_item(alloc, modules, e)?;
+                got!(self.main_item(alloc, modules, e));
             }
         }
         Ok(())

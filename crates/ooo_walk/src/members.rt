@@ -119,10 +119,10 @@ impl Walk {
     ) -> Result<(), AllocError>
         ensures { OnOk result (self.new ≡ scalar_of kind word.now declared initial self.old) }
     {
-        let name = self.full_name(alloc, &word.name)?;
-        self.add_object(alloc, word.position, &name)?;
-        self.after_start(alloc, &name, declared, initial)?;
-        self.add_cells(alloc, 1, word.position, &name)?;
+        let name = got!(self.full_name(alloc, &word.name));
+        keeping!(name; self.add_object(alloc, word.position, &name));
+        keeping!(name; self.after_start(alloc, &name, declared, initial));
+        keeping!(name; self.add_cells(alloc, 1, word.position, &name));
         let start = start_value(kind, declared, initial);
         self.add_variable(BoundVariable {
             kind,
@@ -142,8 +142,8 @@ impl Walk {
     ) -> Result<(), AllocError>
         ensures { OnOk result (self.new ≡ fixed_of kind word.now declared initial self.old) }
     {
-        let name = self.full_name(alloc, &word.name)?;
-        self.after_start(alloc, &name, declared, initial)?;
+        let name = got!(self.full_name(alloc, &word.name));
+        keeping!(name; self.after_start(alloc, &name, declared, initial));
         self.mean(Meaning::Constant(start_value(kind, declared, initial)))
     }
 
@@ -180,8 +180,8 @@ impl Walk {
     ) -> Result<(), AllocError>
         ensures { OnOk result (self.new ≡ array_of kind word.now length self.old) }
     {
-        let name = self.full_name(alloc, &word.name)?;
-        self.add_object(alloc, word.position, &name)?;
+        let name = got!(self.full_name(alloc, &word.name));
+        keeping!(name; self.add_object(alloc, word.position, &name));
         match length_of(length.answer) {
             Some(count) => self.elements(alloc, kind, count, word.position, &name),
             None => self.refuse(alloc, ElabBreach::BadConstant, length.at, &name),
@@ -367,9 +367,9 @@ impl Walk {
     ) -> Result<(), AllocError>
         ensures { OnOk result (self.new ≡ fifo_of kind word.now declared initial self.old) }
     {
-        let name = self.full_name(alloc, &word.name)?;
-        self.add_object(alloc, word.position, &name)?;
-        self.after_start(alloc, &name, declared, initial)?;
+        let name = got!(self.full_name(alloc, &word.name));
+        keeping!(name; self.add_object(alloc, word.position, &name));
+        keeping!(name; self.after_start(alloc, &name, declared, initial));
         self.sized_fifo(alloc, kind, size_of(declared, initial), word.position, name)
     }
 
@@ -377,8 +377,8 @@ impl Walk {
     fn signal(&mut self, alloc: Global, kind: Kind, word: &Word) -> Result<(), AllocError>
         ensures { OnOk result (self.new ≡ signal_of kind word.now self.old) }
     {
-        let name = self.full_name(alloc, &word.name)?;
-        self.add_object(alloc, word.position, &name)?;
+        let name = got!(self.full_name(alloc, &word.name));
+        keeping!(name; self.add_object(alloc, word.position, &name));
         let bound = BoundChannel {
             kind: ChannelKind::Signal,
             value: kind,
@@ -440,8 +440,8 @@ impl Walk {
     pub(crate) fn event(&mut self, alloc: Global, name: &Resolved) -> Result<(), AllocError>
         ensures { OnOk result (self.new ≡ event_of name.now self.old) }
     {
-        let full = self.full_name(alloc, &name.word.name)?;
-        self.add_object(alloc, name.word.position, &full)?;
+        let full = got!(self.full_name(alloc, &name.word.name));
+        keeping!(full; self.add_object(alloc, name.word.position, &full));
         self.add_event()
     }
 }

@@ -1,4 +1,4 @@
-ghost use Rattle.std.specs.Prelude.{◌≡◌, ◌++◌, IfOk, OnOk, Some, length, None, replicate, slice_get};
+ghost use Rattle.std.specs.Prelude.{◌≡◌, [], ◌∷◌, ◌++◌, IfOk, OnOk, Some, length, None, replicate, slice_get};
 ghost use Rattle.std.specs.Option.{option_copied};
 ghost use Rattle.ooo_walk.specs.Plans.{args_in, constructor_at, constructor_from, counted_from, counted_with, filed};
 ghost use Rattle.ooo_walk.specs.Plans.{function_at, init_args, init_placed, inits_of, member_placed};
@@ -67,7 +67,8 @@ fn places(alloc: Global, members: &[CheckedMember]) -> Result<Items<usize>, Allo
 {
     let mut all = Items::new(alloc);
     'parts: for (place, e) in members.iter().enumerate() {
-        all.append(Items::from_vec(Vec::from_elem(alloc, place, names_in(e))?))?;
+        let more = keeping!(all; Vec::from_elem(alloc, place, names_in(e)));
+        keeping!(all; all.append(Items::from_vec(more)));
     }
     Ok(all)
 }
@@ -160,17 +161,27 @@ fn planned(alloc: Global, item: usize, members: &[CheckedMember]) -> Result<Plan
 {
     let places = places(alloc, members)?;
     let constructor = constructor_place(members);
-    let inits = count_inits(
-        alloc,
-        places.len(),
-        inits_of(constructor_at(members, constructor)),
-    )?;
+    let inits = inits_of(constructor_at(members, constructor));
+    let inits = keeping!(places; count_inits(alloc, places.len(), inits));
     Ok(Plan {
         item,
         places,
         constructor,
         inits,
     })
+}
+
+// Adds where the parts of a module with these members stand, which is declared at this place of the file.
+fn add_plan(
+    alloc: Global,
+    item: usize,
+    members: &[CheckedMember],
+    all: &mut Items<Plan>,
+) -> Result<(), AllocError>
+    ensures { OnOk result (all.new ≡ all.old ++ plan_of item members.now ∷ []) }
+{
+    let plan = got!(planned(alloc, item, members));
+    all.push(plan)
 }
 
 /// Of each name that the file declares, where the parts of its module stand.
@@ -185,9 +196,11 @@ pub fn plans(alloc: Global, items: &[CheckedUnitItem]) -> Result<Items<Plan>, Al
     'parts: for (place, e) in items.iter().enumerate() {
         match e {
             CheckedUnitItem::Using(_) => {}
-            CheckedUnitItem::Constant(_) => all.push(planned(alloc, place, &[])?)?,
+            CheckedUnitItem::Constant(_) => {
+                keeping!(all; add_plan(alloc, place, &[], &mut all));
+            }
             CheckedUnitItem::Module(module) => {
-                all.push(planned(alloc, place, module.members.as_slice())?)?;
+                keeping!(all; add_plan(alloc, place, module.members.as_slice(), &mut all));
             }
         }
     }

@@ -1,4 +1,4 @@
-ghost use Rattle.std.specs.Prelude.{◌≡◌, [], length, true, IfOk, OnOk, slice_index_or};
+ghost use Rattle.std.specs.Prelude.{◌≡◌, [], length, true, IfOk, OnOk, slice_get, slice_index_or};
 ghost use Rattle.std.specs.Option.{option_copied};
 ghost use Rattle.ooo_walk.specs.Plans.{function_at, viewed};
 ghost use Rattle.ooo_walk.specs.Reach.{calls_at, calls_in, Marks, reached_by, with_calls, with_function};
@@ -20,7 +20,7 @@ pub fn calls(alloc: Global, function: Option<&CheckedFunction>) -> Result<Vec<us
 {
     let mut all = Vec::new(alloc);
     if let Some(function) = function {
-        add_calls(function.body.as_slice(), &mut all)?;
+        keeping!(all; add_calls(function.body.as_slice(), &mut all));
     }
     Ok(all)
 }
@@ -60,7 +60,7 @@ fn add_function(
     if view.function(number).is_none() {
         return Ok(());
     }
-    seen.push(number)?;
+    got!(seen.push(number));
     marks.set(number, true);
     Ok(())
 }
@@ -92,6 +92,23 @@ fn calls_at(alloc: Global, view: View<'_>, number: Option<usize>) -> Result<Vec<
     }
 }
 
+// Adds the functions that the one at a place of a list calls, unless they are there.
+fn add_turn(
+    alloc: Global,
+    view: View<'_>,
+    place: usize,
+    marks: &mut Items<bool>,
+    seen: &mut Items<usize>,
+) -> Result<(), AllocError>
+    requires { Marks (length view.places.now) seen.old marks.old }
+    ensures seen { OnOk result (seen.new ≡ with_calls (viewed view.entry) seen.old
+        (calls_at (viewed view.entry) (slice_get seen.old place))) }
+    ensures marks { OnOk result (Marks (length view.entry.places.now) seen.new marks.new) }
+{
+    let calls = got!(calls_at(alloc, view, seen.get(place).copied()));
+    add_functions(view, calls.as_slice(), marks, seen)
+}
+
 /// The functions of a module that are reached by calls of these, by their numbers, each once.
 ///
 /// # Errors
@@ -101,12 +118,11 @@ pub fn reached(alloc: Global, view: View<'_>, by: &[usize]) -> Result<Items<usiz
     ensures { IfOk result (λ all. all ≡ reached_by (viewed view.entry) by.now) }
 {
     let names = view.places.len();
-    let mut marks = no_marks(alloc, names)?;
+    let mut marks = got!(no_marks(alloc, names));
     let mut seen = Items::new(alloc);
-    add_functions(view, by, &mut marks, &mut seen)?;
+    keeping!(marks, seen; add_functions(view, by, &mut marks, &mut seen));
     'turns: for place in 0..names {
-        let calls = calls_at(alloc, view, seen.get(place).copied())?;
-        add_functions(view, calls.as_slice(), &mut marks, &mut seen)?;
+        keeping!(marks, seen; add_turn(alloc, view, place, &mut marks, &mut seen));
     }
     Ok(seen)
 }

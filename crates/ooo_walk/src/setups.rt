@@ -72,8 +72,8 @@ fn told(
         ≡ process_told (viewed view.entry) (constants_of known.entry) number) }
 {
     let function = view.function(number);
-    let by = calls(alloc, function)?;
-    let functions = reached(alloc, view, by.as_slice())?;
+    let by = got!(calls(alloc, function));
+    let functions = keeping!(by; reached(alloc, view, by.as_slice()));
     let mut told = None;
     tell_function(known, function, &mut told);
     tell_functions(view, known, functions.as_slice(), &mut told);
@@ -102,9 +102,9 @@ impl Walk {
     ) -> Result<(), AllocError>
         ensures { OnOk result (self.new ≡ set_with name.now given self.old) }
     {
-        let full = self.full_name(alloc, &name.word.name)?;
+        let full = got!(self.full_name(alloc, &name.word.name));
         let meaning = self.here.members.get(name.denotes.number).copied();
-        self.after_answer(alloc, given.answer, given.at, &full)?;
+        keeping!(full; self.after_answer(alloc, given.answer, given.at, &full));
         if let Some(Meaning::Variable(number)) = meaning {
             self.start(number as usize, given.answer);
         }
@@ -203,11 +203,11 @@ impl Walk {
         ensures { OnOk result
             (self.new ≡ process_of (viewed view.entry) kind place name.now self.old) }
     {
-        let full = self.full_name(alloc, &name.word.name)?;
-        let told = told(alloc, view, self.known(), name.denotes.number)?;
-        let instance = narrow(self.instances.len())?;
+        let full = got!(self.full_name(alloc, &name.word.name));
+        let told = keeping!(full; told(alloc, view, self.known(), name.denotes.number));
+        let instance = keeping!(full; narrow(self.instances.len()));
         let form = ProcessForm::Registered(kind, instance, place, name.denotes.number);
-        self.add_process(alloc, form, name.word.position, &full)?;
+        keeping!(full; self.add_process(alloc, form, name.word.position, &full));
         if self.refusal.is_some() {
             return Ok(());
         }

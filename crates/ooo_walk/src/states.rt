@@ -103,13 +103,13 @@ fn add_channel_events(
 {
     match (kind, value) {
         (ChannelKind::Signal, Kind::Bool) => {
-            events.push(BoundEvent::Changed(channel))?;
-            events.push(BoundEvent::Rise(channel))?;
+            got!(events.push(BoundEvent::Changed(channel)));
+            got!(events.push(BoundEvent::Rise(channel)));
             events.push(BoundEvent::Fall(channel))
         }
         (ChannelKind::Signal, _) => events.push(BoundEvent::Changed(channel)),
         (ChannelKind::Fifo, _) => {
-            events.push(BoundEvent::Written(channel))?;
+            got!(events.push(BoundEvent::Written(channel)));
             events.push(BoundEvent::Taken(channel))
         }
     }
@@ -127,8 +127,9 @@ impl Walk {
         ensures { OnOk result (self.new ≡ refused what at name.now self.old) }
     {
         if self.refusal.is_none() {
+            let name = got!(name.copy(alloc));
             let mut names = Items::new(alloc);
-            names.push(name.copy(alloc)?)?;
+            keeping!(names; names.push(name));
             self.refusal = Some(Refusal { what, at, names });
         }
         Ok(())
@@ -280,8 +281,8 @@ impl Walk {
     pub(crate) fn add_variable(&mut self, variable: BoundVariable) -> Result<(), AllocError>
         ensures { OnOk result (self.new ≡ with_variable variable self.old) }
     {
-        let number = narrow(self.variables.len())?;
-        self.variables.push(variable)?;
+        let number = got!(narrow(self.variables.len()));
+        got!(self.variables.push(variable));
         self.mean(Meaning::Variable(number))
     }
 
@@ -295,16 +296,18 @@ impl Walk {
     ) -> Result<(), AllocError>
         ensures { OnOk result (self.new ≡ with_channel bound is_clock at name self.old) }
     {
-        let number = narrow(self.channels.len())?;
-        let first_event = narrow(self.events.len())?;
-        self.channels.push(WalkedChannel {
-            bound,
-            is_clock,
-            first_event,
-            name,
-            at,
-        })?;
-        add_channel_events(bound.kind, bound.value, number, &mut self.events)?;
+        let number = keeping!(name; narrow(self.channels.len()));
+        let first_event = keeping!(name; narrow(self.events.len()));
+        got!(
+            self.channels.push(WalkedChannel {
+                bound,
+                is_clock,
+                first_event,
+                name,
+                at,
+            })
+        );
+        got!(add_channel_events(bound.kind, bound.value, number, &mut self.events));
         self.mean(Meaning::Channel(number))
     }
 
@@ -317,8 +320,8 @@ impl Walk {
     ) -> Result<(), AllocError>
         ensures { OnOk result (self.new ≡ with_port form at name self.old) }
     {
-        let number = narrow(self.ports.len())?;
-        self.ports.push(WalkedPort { form, name, at })?;
+        let number = keeping!(name; narrow(self.ports.len()));
+        got!(self.ports.push(WalkedPort { form, name, at }));
         self.mean(Meaning::Port(number))
     }
 

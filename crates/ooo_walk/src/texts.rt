@@ -44,12 +44,12 @@ impl Walk {
             items: unit.items.as_slice(),
             plans,
         };
-        self.file_items(alloc, unit.items.as_slice())?;
-        self.main_items(alloc, modules, unit.main.items.as_slice())?;
-        if self.refusal.is_none() {
-            self.start_form(alloc, &unit.main.start)?;
+        got!(self.file_items(alloc, unit.items.as_slice()));
+        got!(self.main_items(alloc, modules, unit.main.items.as_slice()));
+        if self.refusal.is_some() {
+            return Ok(());
         }
-        Ok(())
+        self.start_form(alloc, &unit.main.start)
     }
 }
 
@@ -64,8 +64,6 @@ pub fn walk(alloc: Global, unit: &CheckedUnit, plans: &[Plan]) -> Result<Walk, A
     ensures { IfOk result (λ walk. walk ≡ walk_of unit.now) }
 {
     let mut walk = at_first(alloc);
-    match walk.text(alloc, unit, plans) {
-        Ok(()) => Ok(walk),
-        Err(error) => Err(error),
-    }
+    keeping!(walk; walk.text(alloc, unit, plans));
+    Ok(walk)
 }
