@@ -1,3 +1,4 @@
 pub mod Instances
 pub mod Levels
 pub mod Marked
+pub mod Order

@@ -1,11 +1,13 @@
 use Rattle.std.proofs.Common.{◌≡◌, ◌∙◌, ◌-◌, ap, subst, sym, OnOk}
 use Rattle.ooo_walk.specs.declared.state.Walk.{Walk}
-use Rattle.ooo_walk.specs.Instances.{args_evaluated, inside_of, walked_with}
+use Rattle.ooo_walk.specs.Instances.{args_evaluated, child_of, inside_of, member_of, walked_with}
 use Rattle.ooo_walk.specs.Plans.{filed, init_args, view_at, viewed}
 use Rattle.ooo_walk.specs.States.{known_here}
 use Rattle.ooo_walk.proofs.Instances.{child_is, instance_is}
 use Rattle.ooo_walk.proofs.Levels.{inside_step}
+use Rattle.ooo_walk.proofs.Order.{in_order_more, left_out, one_more}
 use Rattle.ooo_walk.proofs.state.Walk.+instances.Goals as goal
+use Rattle.ooo_walk.proofs.state.Walk.+instances.Goals.{members-then-is_none+in-Ok, members-else-is_none, children-then-is_none+in-Ok, children-else-is_none}
 
 pub inside-returns : goal.inside-returns
 inside-returns t c =
@@ -35,3 +37,30 @@ child-returns t c =
     (c.as_slice-2.ensures ∙ c.in-Ok-args_evaluated.ensures ∙ ap (λ k. args_evaluated k c.init_args-given.result.now) c.known-2.ensures
     ∙ ap (args_evaluated (known_here c.args.self.now)) (c.init_args-given.ensures ∙ ap (init_args (viewed c.args.view)) c.len.ensures)))
     c.instance.ensures
+
+pub members-parts-preserved : goal.members-parts-preserved
+members-parts-preserved t c =
+    let f = filed c.args.modules in
+    let inside = inside_of c.args.levels f in
+    let v = viewed c.args.view in
+    let x = c.e-item.result in
+    in_order_more (member_of inside f v) c.args.view.members.now c.parts.e-index x c.parts.self c.if-is_none.self _ c.parts-test.true c.e-item.is
+    (elim c.if-is_none.branch [
+      | members-then-is_none+in-Ok w ↦ one_more (member_of inside f v x) c.parts.self c.if-is_none.self c.is_none.result c.is_none.ensures w.if-is_none.true (w.self-is ∙ w.in-Ok.ensures)
+      | members-else-is_none w ↦ left_out (member_of inside f v x) c.parts.self c.if-is_none.self c.is_none.result c.is_none.ensures w.if-is_none.false w.self-is
+    ])
+    c.parts.invariant
+
+pub children-parts-preserved : goal.children-parts-preserved
+children-parts-preserved t c =
+    let f = filed c.args.modules in
+    let inside = inside_of c.args.levels f in
+    let v = viewed c.args.view in
+    let n = c.args.children.now.module_name.denotes.number in
+    let x = c.e-item.result in
+    in_order_more (child_of inside f v n) c.as_slice-e-items.result.now c.parts.e-index x c.parts.self c.if-is_none.self _ c.parts-test.true c.e-item.is
+    (elim c.if-is_none.branch [
+      | children-then-is_none+in-Ok w ↦ one_more (child_of inside f v n x) c.parts.self c.if-is_none.self c.is_none.result c.is_none.ensures w.if-is_none.true (w.self-is ∙ w.in-Ok.ensures)
+      | children-else-is_none w ↦ left_out (child_of inside f v n x) c.parts.self c.if-is_none.self c.is_none.result c.is_none.ensures w.if-is_none.false w.self-is
+    ])
+    c.parts.invariant
