@@ -1,6 +1,6 @@
 ghost use Rattle.std.specs.Prelude.{◌≡◌, [], ◌∷◌, ◌++◌, IfOk, OnOk, Some, length, None, replicate, slice_get};
 ghost use Rattle.std.specs.Option.{option_copied};
-ghost use Rattle.ooo_walk.specs.Plans.{args_in, constructor_at, constructor_from, counted_from, counted_with, filed};
+ghost use Rattle.ooo_walk.specs.Plans.{args_in, as_constructor, constructor_at, constructor_from, counted_from, counted_with, filed};
 ghost use Rattle.ooo_walk.specs.Plans.{function_at, init_args, init_placed, inits_of, member_placed};
 ghost use Rattle.ooo_walk.specs.Plans.{members_in, names_in, params_of, places_from, plan_of};
 ghost use Rattle.ooo_walk.specs.Plans.{plans_from, setups_of, view_at, view_by, viewed};
@@ -86,13 +86,23 @@ fn constructor_place(members: &[CheckedMember]) -> Option<usize>
     found
 }
 
+// A member as a constructor, if it is one.
+fn as_constructor(member: Option<&CheckedMember>) -> Option<&CheckedConstructor>
+    ensures { option_copied result ≡ as_constructor (option_copied member.entry) }
+{
+    match member {
+        Some(CheckedMember::Constructor(constructor)) => Some(constructor),
+        _ => None,
+    }
+}
+
 // The constructor at a place.
 fn constructor_at(members: &[CheckedMember], place: Option<usize>) -> Option<&CheckedConstructor>
     ensures { option_copied result ≡ constructor_at members.now place }
 {
-    match members.get(place?) {
-        Some(CheckedMember::Constructor(constructor)) => Some(constructor),
-        _ => None,
+    match place {
+        Some(place) => as_constructor(members.get(place)),
+        None => None,
     }
 }
 
@@ -257,7 +267,10 @@ impl<'a> View<'a> {
         ensures { option_copied result ≡ member_placed self.entry.members.now
             (slice_get self.entry.places.now number) }
     {
-        self.members.get(*self.places.get(number)?)
+        match self.places.get(number) {
+            Some(place) => self.members.get(*place),
+            None => None,
+        }
     }
 
     /// The function of this number among the names of the module, if it is one.

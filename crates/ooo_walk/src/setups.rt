@@ -7,7 +7,7 @@ ghost use Rattle.ooo_walk.specs.Setups.{after_times, bind_meant, bind_of, bound_
 ghost use Rattle.ooo_walk.specs.Setups.{function_refusals, port_in, process_of, process_told};
 ghost use Rattle.ooo_walk.specs.Setups.{set_meant, set_of, set_with, setup_of, setups_from};
 ghost use Rattle.ooo_walk.specs.Setups.{told_times, with_start};
-ghost use Rattle.ooo_walk.specs.States.{as_breach, unless_refused};
+ghost use Rattle.ooo_walk.specs.States.{as_breach, unless_refused, with_process};
 
 use crate::plan::View;
 use crate::reach::{calls, reached};
@@ -93,6 +93,15 @@ impl Walk {
         }
     }
 
+    // A variable starts otherwise, if a name means one.
+    fn start_meant(&mut self, meaning: Option<Meaning>, answer: Result<Value, Fault>)
+        ensures { self.new ≡ set_meant meaning answer self.old }
+    {
+        if let Some(Meaning::Variable(number)) = meaning {
+            self.start(number as usize, answer);
+        }
+    }
+
     // A start value that is set.
     fn set_value(
         &mut self,
@@ -105,9 +114,7 @@ impl Walk {
         let full = got!(self.full_name(alloc, &name.word.name));
         let meaning = self.here.members.get(name.denotes.number).copied();
         keeping!(full; self.after_answer(alloc, given.answer, given.at, &full));
-        if let Some(Meaning::Variable(number)) = meaning {
-            self.start(number as usize, given.answer);
-        }
+        self.start_meant(meaning, given.answer);
         Ok(())
     }
 
@@ -191,6 +198,25 @@ impl Walk {
         }
     }
 
+    // A process of this full name, of whose constant times this is told.
+    fn add_told(
+        &mut self,
+        alloc: Global,
+        form: ProcessForm,
+        told: Option<TimeRefusal>,
+        at: Position,
+        name: &Name,
+    ) -> Result<(), AllocError>
+        ensures { OnOk result (self.new ≡ unless_refused (after_times told name.now)
+            (with_process form at name.now self.old)) }
+    {
+        got!(self.add_process(alloc, form, at, name));
+        if self.refusal.is_some() {
+            return Ok(());
+        }
+        self.after_times(alloc, told, name)
+    }
+
     // A process of a kind, which is registered at a place of the constructor.
     fn process(
         &mut self,
@@ -207,11 +233,7 @@ impl Walk {
         let told = keeping!(full; told(alloc, view, self.known(), name.denotes.number));
         let instance = keeping!(full; narrow(self.instances.len()));
         let form = ProcessForm::Registered(kind, instance, place, name.denotes.number);
-        keeping!(full; self.add_process(alloc, form, name.word.position, &full));
-        if self.refusal.is_some() {
-            return Ok(());
-        }
-        self.after_times(alloc, told, &full)
+        self.add_told(alloc, form, told, name.word.position, &full)
     }
 
     // A statement at a place of the constructor.

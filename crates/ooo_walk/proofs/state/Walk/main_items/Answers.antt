@@ -1,4 +1,4 @@
-use Rattle.std.proofs.Common.{◌≡◌, ◌∙◌}
+use Rattle.std.proofs.Common.{◌∙◌}
 use Rattle.ooo_walk.specs.Plans.{filed}
 use Rattle.ooo_walk.specs.Texts.{main_item_of}
 use Rattle.ooo_walk.proofs.Order.{in_order_more, left_out, one_more}
