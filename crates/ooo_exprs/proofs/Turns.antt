@@ -1,5 +1,5 @@
 -- The loops of the code: the levels of an expression, and lists.
-use Rattle.std.proofs.Common.{if◌then◌else◌, ◌≡◌, arith, ℕ, zero, suc, ◌+◌, ◌-◌, ◌<◌, ◌≤◌, Bool, true, false, List, [], ◌∷◌, length, Option, Some, None, is_some, ◌⊎◌, inl, inr, refl, sym, ap, ◌∙◌, subst}
+use Rattle.std.proofs.Common.{if◌then◌else◌, ◌≡◌, arith, ℕ, zero, suc, ◌+◌, ◌-◌, ◌<◌, ◌≤◌, Bool, true, false, List, [], ◌∷◌, length, Option, Some, None, is_some, refl, sym, ap, ◌∙◌, subst}
 use Rattle.std.specs.Prelude.{drop, Result}
 use Rattle.std.specs.Borrow.{Bor}
 use Rattle.ooo_syntax.specs.declared.symbol.Symbol.{Symbol}
@@ -11,18 +11,19 @@ use Rattle.ooo_grammar.specs.declared.limits.ReadError.{ReadError}
 use Rattle.ooo_exprs.specs.declared.expressions.First.{First}
 use Rattle.ooo_exprs.specs.declared.expressions.First.TheVariants as first
 use Rattle.ooo_grammar.specs.declared.limits.Limits.{Limits}
-use Rattle.ooo_grammar.specs.Forms.{Outcome, Got, Deep, Reader, after, begins_with, one_at, one_r, then_r, mapped_r, nothing_r, repeats_in, repeats_r}
+use Rattle.ooo_grammar.specs.Forms.{Outcome, Got, Bad, Deep, Reader, after, begins_with, bottom_r, one_at, one_r, then_r, mapped_r, nothing_r, repeats_in, repeats_r}
 use Rattle.ooo_grammar.specs.Sets.{disjoint, Terminals, in_set, table_test, table_of}
 use Rattle.ooo_grammar.specs.Codes.{Code, deeper, within}
 use Rattle.ooo_syntax.specs.declared.terminal.Terminal.TheVariants as terminal
-use Rattle.ooo_grammar.specs.Names.{word_tails}
-use Rattle.ooo_grammar.specs.Combinators.{signs_of, Table, rows, terminals_of, always, op_of, levels, are_apart}
-use Rattle.ooo_grammar.specs.Expressions.{binary_levels, sum_levels, counted_sum, inner, inner_plain, whole_expression, plain_expression, inside_expression, expression, unary, plain_unary, operand, converted, chosen}
+use Rattle.ooo_grammar.specs.Names.{word_tails, begins_expr}
+use Rattle.ooo_grammar.specs.Combinators.{or_none, signs_of, Table, rows, terminals_of, always, op_of, levels, are_apart}
+use Rattle.ooo_grammar.specs.Expressions.{binary_levels, sum_levels, counted_sum, inner, inner_plain, whole_expression, plain_expression, inside_expression, expression, unary, plain_unary, operand, converted, chosen, expressions, some_expressions}
 use Rattle.ooo_grammar.specs.Readings.{Room, fits, reader}
 use Rattle.ooo_grammar.specs.Gives.{Gives, Stops, reads_at, room_at}
-use Rattle.ooo_exprs.specs.Levels.{turn, op_levels, levels_r, level_r, op_in, op_at, kinds_in, kinds_at, first_r, level_at, others_of, is_inside, chosen_r, expression_r, turn_at}
+use Rattle.ooo_exprs.specs.Levels.{turn, op_levels, levels_r, level_r, op_in, op_at, kinds_in, kinds_at, first_r, level_at, others_of, is_inside, chosen_r, expression_r, refused, turn_at}
+use Rattle.ooo_exprs.specs.Steps.{gives_second}
 use Rattle.std.proofs.lemmas.Bool.{and_parts}
-use Rattle.ooo_grammar.specs.Steps.{stops_first, deeper_gives}
+use Rattle.ooo_grammar.specs.Steps.{stops_first, got_second, deeper_is}
 
 if_true : {A : Type 0} (b : Bool) (x y : A) → b ≡ true → (if b then x else y) ≡ x
 if_true b x y e = rw e refl
@@ -125,6 +126,12 @@ whole_gives l ts r h = subst (λ o. Gives o r) (sym (whole_is l ts)) h
 pub plain_gives : (l : Limits) (ts : List Symbol) (r : Result (Expr × Bor (List Symbol)) ReadError) → Gives (expression_r l first.Plain ts) r → Gives (reads_at l plain_expression ts) r
 plain_gives l ts r h = subst (λ o. Gives o r) (sym (plain_is l ts)) h
 
+-- where no level is left
+pub refused_stops : {f : Terminals} {g : Expr → Terminals} (c : Code Expr f g false) (l : Limits) (first : Symbol → Bool) (b : Bool) (ts : List Symbol) (e : ReadError) → ((room : Room) → reader 0 room c ts ≡ bottom_r first ts)
+    → b ≡ begins_with first ts → (l.levels ≡ 0) × Stops (refused b ts) e → Stops (reads_at l c ts) e
+refused_stops c l first b ts e h i (j, s) =
+    subst (λ o. Stops o e) (ap (λ b. refused b ts) i ∙ sym (h (room_at l.bound)) ∙ ap (λ n. reader n (room_at l.bound) c ts) (sym j)) s
+
 -- the same, one level deeper
 pub inner_gives : (l m : Limits) (ts : List Symbol) (r : Result (Expr × Bor (List Symbol)) ReadError) → 0 < l.levels → m.levels ≡ l.levels - 1 → m.bound ≡ l.bound → Gives (expression_r m first.Any ts) r → Gives (reads_at l inner ts) r
 unfolding inner
@@ -142,6 +149,12 @@ inner_plain_gives l m ts r lt i j h =
     (ap (λ b. reader m.levels (room_at b) plain_expression ts) j ∙ ap (λ n. reader n (room_at l.bound) inner_plain ts) (sym e))
     (plain_gives m ts r h)
 
+pub operand_gives : (l m : Limits) (ts : List Symbol) (r : Result (Expr × Bor (List Symbol)) ReadError) → 0 < l.levels → m.levels ≡ l.levels - 1 → m.bound ≡ l.bound → Gives (reads_at m unary ts) r → Gives (reads_at l operand ts) r
+unfolding operand
+operand_gives l m ts r lt i j h =
+    let e : l.levels ≡ suc m.levels = omega arith in
+    subst (λ o. Gives o r) (ap (λ b. reader m.levels (room_at b) unary ts) j ∙ ap (λ n. reader n (room_at l.bound) operand ts) (sym e)) h
+
 pub inside_is : (l : Limits) (t : TypeName) (ts : List Symbol) → reads_at l (inside_expression t) ts ≡ expression_r l (first.Converted t) ts
 unfolding inside_expression level_r first_r
 inside_is l t ts = ap (λ p. after (p ts) (λ a. reads_at l (deeper (chosen a)))) (levels_are l.levels (room_at l.bound) true binary_levels (within (terminal.Open ∷ []) (always word_tails) (deeper (converted t)) refl (λ _. refl)) operand refl)
@@ -155,6 +168,11 @@ sum_is l ts = ap (λ p. p ts) (levels_are l.levels (room_at l.bound) false sum_l
 
 pub sum_gives : (l : Limits) (ts : List Symbol) (r : Result (Expr × Bor (List Symbol)) ReadError) → Gives (level_at l first.Any 8 ts) r → Gives (reads_at l counted_sum ts) r
 sum_gives l ts r h = subst (λ o. Gives o r) (sym (sum_is l ts)) h
+
+-- ---- limits
+
+same_limits : {A : Type 0} {f : Terminals} {g : A → Terminals} {e : Bool} (l m : Limits) (c : Code A f g e) (ts : List Symbol) → m.levels ≡ l.levels → m.bound ≡ l.bound → reads_at l c ts ≡ reads_at m c ts
+same_limits l m c ts i j = ap (λ n. reader n (room_at l.bound) c ts) (sym i) ∙ ap (λ b. reader m.levels (room_at b) c ts) (sym j)
 
 -- ---- the loop over one level
 
@@ -201,12 +219,47 @@ pub level_goes_on : (l m : Limits) (x : First) (k : ℕ) (o : Outcome Expr) (n i
 level_goes_on l m x k o n i a b t rest later more p h q j s u v w d =
     h ∙ one_turn (in_set (kinds_at k)) (fits (op_levels (is_inside x) l.levels) (room_at l.bound)) (op_at k) (op_same k) _ n i a b t rest later more p q j s (may_is l m x t true u v w) (ap (λ r. r later) (sym (others_level l x (k + 1))) ∙ d)
 
--- what follows a condition that stands inside a bracket
-pub chosen_inside : (l m : Limits) (x : First) (a : Expr) (ts : List Symbol) (r : Result (Expr × Bor (List Symbol)) ReadError) → ((t : TypeName) × x ≡ first.Converted t) ⊎ (x ≡ first.Operand) → m.levels ≡ l.levels - 1 → m.bound ≡ l.bound → Gives (reads_at m (chosen a) ts) r → Gives (chosen_r l x a ts) r
-chosen_inside l m x a ts r (inl (t, e)) i j h = subst (λ x. Gives (chosen_r l x a ts) r) (sym e) (deeper_gives l m (chosen a) ts r i j h)
-chosen_inside l m x a ts r (inr e) i j h = subst (λ x. Gives (chosen_r l x a ts) r) (sym e) (deeper_gives l m (chosen a) ts r i j h)
+-- what follows a condition, which inside a bracket stands one level deeper
+pub chosen_is : (l m : Limits) (x : First) (a : Expr) (ts : List Symbol) → m.levels ≡ op_levels (is_inside x) l.levels → m.bound ≡ l.bound → chosen_r l x a ts ≡ reads_at m (chosen a) ts
+chosen_is l m first.Any a ts i j = same_limits l m (chosen a) ts i j
+chosen_is l m first.Plain a ts i j = same_limits l m (chosen a) ts i j
+chosen_is l m (first.Converted t) a ts i j = deeper_is l m (chosen a) ts i j
+chosen_is l m first.Operand a ts i j = deeper_is l m (chosen a) ts i j
 
--- and where it doesn't
-pub chosen_outside : (l : Limits) (x : First) (a : Expr) (ts : List Symbol) (r : Result (Expr × Bor (List Symbol)) ReadError) → (x ≡ first.Any) ⊎ (x ≡ first.Plain) → Gives (reads_at l (chosen a) ts) r → Gives (chosen_r l x a ts) r
-chosen_outside l x a ts r (inl e) h = subst (λ x. Gives (chosen_r l x a ts) r) (sym e) h
-chosen_outside l x a ts r (inr e) h = subst (λ x. Gives (chosen_r l x a ts) r) (sym e) h
+-- an expression whose condition was read
+pub chosen_gives : (l m : Limits) (x : First) (a : Expr) (ts mid : List Symbol) (r : Result (Expr × Bor (List Symbol)) ReadError) → m.levels ≡ op_levels (is_inside x) l.levels → m.bound ≡ l.bound → level_at l x 0 ts ≡ Got a mid → Gives (reads_at m (chosen a) mid) r → Gives (expression_r l x ts) r
+chosen_gives l m x a ts mid r i j h g = gives_second (chosen_r l x) r h (subst (λ o. Gives o r) (sym (chosen_is l m x a mid i j)) g)
+
+pub chosen_got : (l m : Limits) (x : First) (a : Expr) (ts mid : List Symbol) (o : Outcome Expr) → m.levels ≡ op_levels (is_inside x) l.levels → m.bound ≡ l.bound → level_at l x 0 ts ≡ Got a mid → reads_at m (chosen a) mid ≡ o → expression_r l x ts ≡ o
+chosen_got l m x a ts mid o i j h g = got_second (chosen_r l x) h (chosen_is l m x a mid i j ∙ g)
+
+-- and where none follows
+pub chosen_not : (l : Limits) (x : First) (a : Expr) (ts : List Symbol) → begins_with (in_set (terminal.Question ∷ [])) ts ≡ false → chosen_r l x a ts ≡ Got a ts
+unfolding chosen
+chosen_not l x a ts h = chosen_is l (limits_of l x) x a ts refl refl ∙ none_chosen (limits_of l x) a ts h
+  where
+    none_chosen : (l : Limits) (a : Expr) (ts : List Symbol) → begins_with (in_set (terminal.Question ∷ [])) ts ≡ false → reads_at l (chosen a) ts ≡ Got a ts
+    none_chosen l a ts h = rw h refl
+
+    limits_of : Limits → First → Limits
+    limits_of l x = record { levels = op_levels (is_inside x) l.levels; bound = l.bound }
+
+-- ---- expressions and commas, or nothing
+
+listed_some : (b : Bool) (o : Outcome (List Expr)) (ts : List Symbol) → b ≡ true → after (if b then after o (λ a. nothing_r (Some a)) else Got None ts) (λ o. nothing_r (or_none o)) ≡ o
+listed_some true (Got a rest) ts h = refl
+listed_some true (Bad rest) ts h = refl
+listed_some true (Deep rest) ts h = refl
+listed_some false o ts h = absurd cc
+
+pub some_listed : (l : Limits) (ts : List Symbol) → begins_with (in_set begins_expr) ts ≡ true → reads_at l expressions ts ≡ reads_at l some_expressions ts
+unfolding expressions
+some_listed l ts h = listed_some (begins_with (in_set begins_expr) ts) (reads_at l some_expressions ts) ts h
+
+listed_none : (b : Bool) (o : Outcome (List Expr)) (ts : List Symbol) → b ≡ false → after (if b then after o (λ a. nothing_r (Some a)) else Got None ts) (λ o. nothing_r (or_none o)) ≡ Got [] ts
+listed_none true o ts h = absurd cc
+listed_none false o ts h = refl
+
+pub none_listed : (l : Limits) (ts : List Symbol) → begins_with (in_set begins_expr) ts ≡ false → reads_at l expressions ts ≡ Got [] ts
+unfolding expressions
+none_listed l ts h = listed_none (begins_with (in_set begins_expr) ts) (reads_at l some_expressions ts) ts h

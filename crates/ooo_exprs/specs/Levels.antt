@@ -1,11 +1,13 @@
 -- The binary levels as readers, by the number of a level.
-use Rattle.std.specs.Prelude.{ℕ, ◌+◌, ◌-◌, Bool, true, false, List, [], ◌∷◌, ◌++◌, Option, None, drop}
+use Rattle.std.specs.Prelude.{ℕ, ◌+◌, ◌-◌, Bool, true, false, if◌then◌else◌, List, [], ◌∷◌, ◌++◌, Option, None, drop}
 use Rattle.ooo_syntax.specs.declared.symbol.Symbol.{Symbol}
 use Rattle.ooo_syntax.specs.declared.expr.Expr.{Expr}
 use Rattle.ooo_syntax.specs.declared.expr.Expr.TheVariants as expr
 use Rattle.ooo_syntax.specs.declared.expr.BinaryOp.{BinaryOp}
 use Rattle.ooo_syntax.specs.declared.terminal.Terminal.TheVariants as terminal
-use Rattle.ooo_grammar.specs.Forms.{Reader, then_r, mapped_r, repeats_r, one_r}
+use Rattle.ooo_syntax.specs.declared.leaves.TypeForm.{TypeForm}
+use Rattle.ooo_syntax.specs.declared.leaves.TypeForm.TheVariants as form
+use Rattle.ooo_grammar.specs.Forms.{Outcome, Bad, Deep, Reader, then_r, mapped_r, repeats_r, one_r}
 use Rattle.ooo_grammar.specs.Sets.{Terminals, in_set, table_test}
 use Rattle.ooo_grammar.specs.Codes.{deeper}
 use Rattle.ooo_grammar.specs.Combinators.{Table, rows, terminals_of, quoted}
@@ -98,3 +100,16 @@ chosen_r l first.Operand a = reads_at l (deeper (chosen a))
 
 abbrev pub expression_r : Limits → First → Reader Expr
 expression_r l x = then_r (level_at l x 0) (chosen_r l x)
+
+-- ---- what begins an expression
+
+-- where no level is left: what begins here is too deep
+abbrev pub refused : Bool → List Symbol → Outcome Expr
+refused b ts = if b then Deep ts else Bad ts
+
+-- whether a cast follows `(` and a type: `)` tells after a type that a conversion may begin with
+abbrev pub is_cast : TypeForm → Bool → Bool
+is_cast form.Bool closes = closes
+is_cast form.Int closes = closes
+is_cast form.Unsigned closes = closes
+is_cast _ closes = true

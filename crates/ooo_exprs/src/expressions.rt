@@ -1,18 +1,19 @@
-ghost use Rattle.std.specs.Prelude.{◌≡◌, ◌∷◌, ◌++◌, [], ◌≤◌, IfOk, refl};
-ghost use Rattle.ooo_grammar.specs.Codes.{deeper};
-ghost use Rattle.ooo_grammar.specs.Combinators.{in_parens, led, optional, quoted, to};
-ghost use Rattle.ooo_grammar.specs.Expressions.{after_open, after_short_type, after_unsigned_cast, after_word, arguments, bracketed, cast_to, chosen, conversion, conversion_first, converted, expressions, index, inner, inner_plain, long_cast, member_call, named, numeral, operand, parenthesis, plain_unary, prefixed, prefixed_by, short_type, some_expressions, truth, unary, whole_expression};
-ghost use Rattle.ooo_grammar.specs.Lexis.{long_after, named_type, plain_type};
-ghost use Rattle.ooo_grammar.specs.Gives.{Gives, reads_at};
-ghost use Rattle.ooo_exprs.specs.Levels.{expression_r, first_r, is_inside, item_step, level_at, op_levels, others_of};
+ghost use Rattle.std.specs.Prelude.{◌≡◌, ◌∷◌, ◌++◌, [], ◌≤◌, ◌<◌, ◌-◌, IfErr, IfOk, refl};
+ghost use Rattle.ooo_grammar.specs.Combinators.{led, quoted, to};
+ghost use Rattle.ooo_grammar.specs.Expressions.{arguments, bracketed, cast_to, converted, index, inner, member_call, named, numeral, parenthesis, plain_unary, prefixed, prefixed_by, short_type, some_expressions, truth, unary, whole_expression};
+ghost use Rattle.ooo_grammar.specs.Forms.{begins_with, nothing_r};
+ghost use Rattle.ooo_grammar.specs.Gives.{Gives, Stops, reads_at};
+ghost use Rattle.ooo_grammar.specs.Lexis.{named_type};
+ghost use Rattle.ooo_grammar.specs.Sets.{in_set};
+ghost use Rattle.ooo_exprs.specs.Levels.{expression_r, first_r, is_cast, is_inside, level_at, op_levels, others_of, refused};
 
 use crate::signs::{
     begins_with_expression, begins_with_plain, begins_with_prefix, begins_with_short_type,
     begins_with_truth, op_of_level,
 };
 use ooo_grammar::{
-    Limits, Read, ReadError, begins_with_plain_type, named_type, next, one, one_inside,
-    read_literal, read_long_after, read_member_word, read_plain_type, read_word, starts,
+    Limits, Read, ReadError, begins_with_type, named_type, next, one, one_inside, read_literal,
+    read_member_word, read_type, read_word, starts,
 };
 use ooo_syntax::{BinaryOp, Expr, Mark, PrefixOp, Symbol, Terminal, TypeForm, TypeName, Word};
 use sqlite_items::{Boxed, Items};
@@ -34,7 +35,7 @@ fn followed<'a, T: Drop>(
 
 // ---- expressions of parts
 
-pub(crate) fn boxed(alloc: Global, e: Expr) -> Result<Boxed<Expr>, AllocError>
+fn boxed(alloc: Global, e: Expr) -> Result<Boxed<Expr>, AllocError>
     ensures { IfOk result (λ b. b ≡ e) }
 {
     Boxed::new(alloc, e)
@@ -47,15 +48,85 @@ fn with(mut list: Items<Expr>, more: Expr) -> Result<Items<Expr>, AllocError>
     Ok(list)
 }
 
-fn parenthesized(alloc: Global, opening: Mark, of: Expr) -> Result<Expr, AllocError>
-    ensures { IfOk result (λ e. e ≡ Expr.Paren opening.position of) }
+// An expression onto the heap, before the tokens that are left.
+pub(crate) fn boxed_read<'a>(
+    alloc: Global,
+    of: Expr,
+    rest: &'a [Symbol<'a>],
+) -> Read<'a, Boxed<Expr>>
+    ensures { Gives (nothing_r of rest.now) result }
 {
-    Ok(Expr::Paren(opening.position, boxed(alloc, of)?))
+    Ok((boxed(alloc, of)?, rest))
+}
+
+// A prefix and its operand, before the tokens that are left.
+fn prefix<'a>(
+    alloc: Global,
+    sign: Mark,
+    op: PrefixOp,
+    of: Expr,
+    rest: &'a [Symbol<'a>],
+) -> Read<'a, Expr>
+    ensures { Gives (nothing_r (Expr.Prefix sign.position op of) rest.now) result }
+{
+    Ok((Expr::Prefix(sign.position, op, boxed(alloc, of)?), rest))
+}
+
+// A cast and its operand, before the tokens that are left.
+fn cast<'a>(
+    alloc: Global,
+    opening: Mark,
+    form: TypeName,
+    of: Expr,
+    rest: &'a [Symbol<'a>],
+) -> Read<'a, Expr>
+    ensures { Gives (nothing_r (Expr.Cast opening.position form of) rest.now) result }
+{
+    Ok((Expr::Cast(opening.position, form, boxed(alloc, of)?), rest))
+}
+
+// An expression in parentheses, of which `)` is still to be read.
+fn read_close<'a>(
+    alloc: Global,
+    opening: Mark,
+    of: Expr,
+    tokens: &'a [Symbol<'a>],
+    limits: Limits,
+) -> Read<'a, Expr>
+    ensures { Gives (reads_at limits (to (λ _. Expr.Paren opening.position of) (quoted Terminal.Close)) tokens.now) result }
+{
+    let of = boxed(alloc, of)?;
+    followed(
+        Expr::Paren(opening.position, of),
+        Terminal::Close,
+        tokens,
+        limits,
+    )
+}
+
+// The limits one level deeper. Where no level is left, what begins here is too deep.
+fn deeper_limits<'a>(
+    begins: bool,
+    tokens: &'a [Symbol<'a>],
+    limits: Limits,
+) -> Result<Limits, ReadError>
+    ensures left { IfOk result (λ _. 0 < limits.levels) }
+    ensures levels { IfOk result (λ l. l.levels ≡ limits.levels - 1) }
+    ensures bound { IfOk result (λ l. l.bound ≡ limits.bound) }
+    ensures refused { IfErr result (λ e. (limits.levels ≡ 0) × Stops (refused begins tokens.now) e) }
+{
+    if limits.levels > 0 {
+        return Ok(limits.inside());
+    }
+    if begins {
+        return Err(ReadError::TooDeep(tokens.len()));
+    }
+    Err(ReadError::Syntax(tokens.len()))
 }
 
 // An expression in brackets or after a sign.
 #[cycle(read)]
-#[tactic(auto, using(ooo_grammar::specs::Steps::steps), unfolding(ooo_grammar::specs::Expressions::inner))]
+#[tactic(auto, using(ooo_grammar::specs::Steps::steps))]
 pub(crate) fn read_inner<'a>(
     alloc: Global,
     tokens: &'a [Symbol<'a>],
@@ -63,13 +134,8 @@ pub(crate) fn read_inner<'a>(
 ) -> Read<'a, Expr>
     ensures { Gives (reads_at limits inner tokens.now) result }
 {
-    if limits.levels > 0 {
-        return read_expression(alloc, First::Any, tokens, limits.inside());
-    }
-    if begins_with_expression(tokens) {
-        return Err(ReadError::TooDeep(tokens.len()));
-    }
-    Err(ReadError::Syntax(tokens.len()))
+    let deeper = got!(deeper_limits(begins_with_expression(tokens), tokens, limits));
+    read_expression(alloc, First::Any, tokens, deeper)
 }
 
 // The same, onto the heap.
@@ -83,22 +149,7 @@ pub(crate) fn read_boxed_inner<'a>(
     ensures { Gives (reads_at limits inner tokens.now) result }
 {
     let (of, rest) = got!(read_inner(alloc, tokens, limits));
-    Ok((boxed(alloc, of)?, rest))
-}
-
-// The operand of a prefix or a cast.
-#[cycle(read)]
-#[tactic(auto, using(ooo_grammar::specs::Steps::steps), unfolding(ooo_grammar::specs::Expressions::operand))]
-fn read_operand<'a>(alloc: Global, tokens: &'a [Symbol<'a>], limits: Limits) -> Read<'a, Expr>
-    ensures { Gives (reads_at limits operand tokens.now) result }
-{
-    if limits.levels > 0 {
-        return read_unary(alloc, tokens, limits.inside());
-    }
-    if begins_with_expression(tokens) {
-        return Err(ReadError::TooDeep(tokens.len()));
-    }
-    Err(ReadError::Syntax(tokens.len()))
+    boxed_read(alloc, of, rest)
 }
 
 // An index, after the word.
@@ -128,40 +179,11 @@ fn read_arguments<'a>(
     ensures { Gives (reads_at limits arguments tokens.now) result }
 {
     let (_, rest) = got!(one(tokens, Terminal::Open, limits));
-    let (list, rest) = got!(read_expressions(alloc, rest, limits));
-    followed(list, Terminal::Close, rest, limits)
-}
-
-// Expressions and commas, or nothing.
-#[cycle(read)]
-#[tactic(auto, using(ooo_grammar::specs::Steps::steps), unfolding(ooo_grammar::specs::Expressions::expressions))]
-fn read_expressions<'a>(
-    alloc: Global,
-    tokens: &'a [Symbol<'a>],
-    limits: Limits,
-) -> Read<'a, Items<Expr>>
-    ensures { Gives (reads_at limits expressions tokens.now) result }
-{
-    if begins_with_expression(tokens) {
-        return read_some(alloc, tokens, limits);
+    if !begins_with_expression(rest) {
+        return followed(Items::new(alloc), Terminal::Close, rest, limits);
     }
-    Ok((Items::new(alloc), tokens))
-}
-
-// A comma and one more expression.
-#[cycle(read)]
-#[tactic(auto, using(ooo_grammar::specs::Steps::steps))]
-fn read_item<'a>(
-    alloc: Global,
-    list: Items<Expr>,
-    tokens: &'a [Symbol<'a>],
-    limits: Limits,
-) -> Read<'a, Items<Expr>>
-    ensures { Gives (item_step limits list tokens.now) result }
-{
-    let (_, rest) = keeping!(list; one_inside(tokens, Terminal::Comma, limits));
-    let (item, rest) = keeping!(list; read_inner(alloc, rest, limits));
-    Ok((with(list, item)?, rest))
+    let (list, rest) = got!(read_some(alloc, rest, limits));
+    followed(list, Terminal::Close, rest, limits)
 }
 
 // Expressions and commas.
@@ -170,35 +192,18 @@ fn read_item<'a>(
 fn read_some<'a>(alloc: Global, tokens: &'a [Symbol<'a>], limits: Limits) -> Read<'a, Items<Expr>>
     ensures { Gives (reads_at limits some_expressions tokens.now) result }
 {
-    let (item, mut rest) = got!(read_inner(alloc, tokens, limits));
-    let mut list = with(Items::new(alloc), item)?;
+    let (first, mut rest) = got!(read_inner(alloc, tokens, limits));
+    let mut list = with(Items::new(alloc), first)?;
     'turns: for _turn in 0..rest.len() {
         if !starts(rest, Terminal::Comma) {
             return Ok((list, rest));
         }
-        let (more, after) = got!(read_item(alloc, list, rest, limits));
-        list = more;
+        let (_, after) = keeping!(list; one_inside(rest, Terminal::Comma, limits));
+        let (more, after) = keeping!(list; read_inner(alloc, after, limits));
+        list = with(list, more)?;
         rest = after;
     }
     Ok((list, rest))
-}
-
-// An expression or nothing in parentheses.
-#[cycle(read)]
-#[tactic(auto, using(ooo_grammar::specs::Steps::steps))]
-fn read_option_in_parens<'a>(
-    alloc: Global,
-    tokens: &'a [Symbol<'a>],
-    limits: Limits,
-) -> Read<'a, Option<Boxed<Expr>>>
-    ensures { Gives (reads_at limits (in_parens (optional inner) refl) tokens.now) result }
-{
-    let (_, rest) = got!(one(tokens, Terminal::Open, limits));
-    if !begins_with_expression(rest) {
-        return followed(None, Terminal::Close, rest, limits);
-    }
-    let (value, rest) = got!(read_boxed_inner(alloc, rest, limits));
-    followed(Some(value), Terminal::Close, rest, limits)
 }
 
 // A call of a member, after the word.
@@ -214,99 +219,71 @@ fn read_member<'a>(
 {
     let (_, rest) = keeping!(word; one(tokens, Terminal::Dot, limits));
     let (member, rest) = keeping!(word; read_member_word(alloc, rest, limits));
-    let (value, rest) = keeping!(word, member; read_option_in_parens(alloc, rest, limits));
-    Ok((Expr::Member(word, member, value), rest))
-}
-
-// What follows a word.
-#[cycle(read)]
-#[tactic(auto, using(ooo_grammar::specs::Steps::steps), unfolding(ooo_grammar::specs::Expressions::after_word))]
-fn read_after_word<'a>(
-    alloc: Global,
-    word: Word,
-    tokens: &'a [Symbol<'a>],
-    limits: Limits,
-) -> Read<'a, Expr>
-    ensures { Gives (reads_at limits (after_word word) tokens.now) result }
-{
-    if starts(tokens, Terminal::OpenBracket) {
-        return read_index(alloc, word, tokens, limits);
+    let (_, rest) = keeping!(word, member; one(rest, Terminal::Open, limits));
+    if !begins_with_expression(rest) {
+        return followed(
+            Expr::Member(word, member, None),
+            Terminal::Close,
+            rest,
+            limits,
+        );
     }
-    if starts(tokens, Terminal::Open) {
-        let (list, rest) = keeping!(word; read_arguments(alloc, tokens, limits));
-        return Ok((Expr::Call(word, list), rest));
-    }
-    if starts(tokens, Terminal::Dot) {
-        return read_member(alloc, word, tokens, limits);
-    }
-    Ok((Expr::Name(word), tokens))
+    let (value, rest) = keeping!(word, member; read_boxed_inner(alloc, rest, limits));
+    followed(
+        Expr::Member(word, member, Some(value)),
+        Terminal::Close,
+        rest,
+        limits,
+    )
 }
 
 // An operand that begins with a word.
 #[cycle(read)]
-#[tactic(auto, using(ooo_grammar::specs::Steps::steps), unfolding(ooo_grammar::specs::Expressions::named))]
+#[tactic(auto, using(ooo_grammar::specs::Steps::steps), unfolding(ooo_grammar::specs::Expressions::named, ooo_grammar::specs::Expressions::after_word))]
 fn read_named<'a>(alloc: Global, tokens: &'a [Symbol<'a>], limits: Limits) -> Read<'a, Expr>
     ensures { Gives (reads_at limits named tokens.now) result }
 {
     let (word, rest) = got!(read_word(alloc, tokens, limits));
-    read_after_word(alloc, word, rest, limits)
+    if starts(rest, Terminal::OpenBracket) {
+        return read_index(alloc, word, rest, limits);
+    }
+    if starts(rest, Terminal::Open) {
+        let (list, rest) = keeping!(word; read_arguments(alloc, rest, limits));
+        return Ok((Expr::Call(word, list), rest));
+    }
+    if starts(rest, Terminal::Dot) {
+        return read_member(alloc, word, rest, limits);
+    }
+    Ok((Expr::Name(word), rest))
 }
 
-// A prefix by its sign, and its operand.
-#[cycle(read)]
-#[tactic(auto, using(ooo_grammar::specs::Steps::steps), unfolding(ooo_grammar::specs::Expressions::prefixed_by))]
-fn read_prefixed_by<'a>(
-    alloc: Global,
-    op: PrefixOp,
-    sign: Terminal,
-    tokens: &'a [Symbol<'a>],
-    limits: Limits,
-) -> Read<'a, Expr>
-    ensures { Gives (reads_at limits (led sign (prefixed_by op)) tokens.now) result }
+// What a prefix means, and its sign: `+` where no other stands here.
+#[tactic(auto, unfolding(ooo_grammar::specs::Expressions::prefixed))]
+fn prefix_sign<'a>(tokens: &'a [Symbol<'a>]) -> (PrefixOp, Terminal)
+    ensures { (l : Limits) → reads_at l prefixed tokens.now ≡ reads_at l (led result.1 (prefixed_by result.0)) tokens.now }
 {
-    let (mark, rest) = got!(one(tokens, sign, limits));
-    let (of, rest) = got!(read_operand(alloc, rest, limits));
-    Ok((Expr::Prefix(mark.position, op, boxed(alloc, of)?), rest))
+    if starts(tokens, Terminal::Not) {
+        return (PrefixOp::Not, Terminal::Not);
+    }
+    if starts(tokens, Terminal::Tilde) {
+        return (PrefixOp::Invert, Terminal::Tilde);
+    }
+    if starts(tokens, Terminal::Minus) {
+        return (PrefixOp::Negate, Terminal::Minus);
+    }
+    (PrefixOp::Keep, Terminal::Plus)
 }
 
 // A prefix and its operand.
 #[cycle(read)]
-#[tactic(auto, using(ooo_grammar::specs::Steps::steps), unfolding(ooo_grammar::specs::Expressions::prefixed))]
+#[tactic(auto, using(ooo_grammar::specs::Steps::steps))]
 fn read_prefixed<'a>(alloc: Global, tokens: &'a [Symbol<'a>], limits: Limits) -> Read<'a, Expr>
     ensures { Gives (reads_at limits prefixed tokens.now) result }
 {
-    if starts(tokens, Terminal::Not) {
-        return read_prefixed_by(alloc, PrefixOp::Not, Terminal::Not, tokens, limits);
-    }
-    if starts(tokens, Terminal::Tilde) {
-        return read_prefixed_by(alloc, PrefixOp::Invert, Terminal::Tilde, tokens, limits);
-    }
-    if starts(tokens, Terminal::Minus) {
-        return read_prefixed_by(alloc, PrefixOp::Negate, Terminal::Minus, tokens, limits);
-    }
-    read_prefixed_by(alloc, PrefixOp::Keep, Terminal::Plus, tokens, limits)
-}
-
-// What follows a condition, if a `?` does.
-#[cycle(read)]
-#[tactic(auto, using(ooo_grammar::specs::Steps::steps), unfolding(ooo_grammar::specs::Expressions::chosen))]
-fn read_chosen<'a>(
-    alloc: Global,
-    condition: Expr,
-    tokens: &'a [Symbol<'a>],
-    limits: Limits,
-) -> Read<'a, Expr>
-    ensures { Gives (reads_at limits (chosen condition) tokens.now) result }
-{
-    if !starts(tokens, Terminal::Question) {
-        return Ok((condition, tokens));
-    }
-    let condition = boxed(alloc, condition)?;
-    let (_, rest) = keeping!(condition; one(tokens, Terminal::Question, limits));
-    let (yes, rest) = keeping!(condition; read_boxed_inner(alloc, rest, limits));
-    let (_, rest) = keeping!(condition, yes; one_inside(rest, Terminal::Colon, limits));
-    let (no, rest) = keeping!(condition, yes; read_boxed_inner(alloc, rest, limits));
-    Ok((Expr::Choose(condition, yes, no), rest))
+    let (op, sign) = prefix_sign(tokens);
+    let (mark, rest) = got!(one(tokens, sign, limits));
+    let (of, rest) = got!(read_first(alloc, First::Operand, rest, limits));
+    prefix(alloc, mark, op, of, rest)
 }
 
 /// The operand that an expression begins with.
@@ -334,6 +311,7 @@ fn others(first: First) -> First
 fn op_limits(first: First, limits: Limits) -> Limits
     ensures levels { result.levels ≡ op_levels (is_inside first) limits.levels }
     ensures bound { result.bound ≡ limits.bound }
+    ensures no_more { result.levels ≤ limits.levels }
 {
     match first {
         First::Any | First::Plain => limits,
@@ -401,7 +379,10 @@ fn read_first<'a>(
         First::Any => read_unary(alloc, tokens, limits),
         First::Plain => read_plain_unary(alloc, tokens, limits),
         First::Converted(form) => read_converted(alloc, form, tokens, limits.inside()),
-        First::Operand => read_operand(alloc, tokens, limits),
+        First::Operand => {
+            let deeper = got!(deeper_limits(begins_with_expression(tokens), tokens, limits));
+            read_unary(alloc, tokens, deeper)
+        }
     }
 }
 
@@ -433,12 +414,16 @@ fn read_expression<'a>(
     ensures { Gives (expression_r limits first tokens.now) result }
 {
     let (condition, rest) = got!(read_level(alloc, tokens, first, 0, limits));
-    match first {
-        First::Any | First::Plain => read_chosen(alloc, condition, rest, limits),
-        First::Converted(_) | First::Operand => {
-            read_chosen(alloc, condition, rest, limits.inside())
-        }
+    if !starts(rest, Terminal::Question) {
+        return Ok((condition, rest));
     }
+    let inner = op_limits(first, limits);
+    let condition = boxed(alloc, condition)?;
+    let (_, rest) = keeping!(condition; one(rest, Terminal::Question, inner));
+    let (yes, rest) = keeping!(condition; read_boxed_inner(alloc, rest, inner));
+    let (_, rest) = keeping!(condition, yes; one_inside(rest, Terminal::Colon, inner));
+    let (no, rest) = keeping!(condition, yes; read_boxed_inner(alloc, rest, inner));
+    Ok((Expr::Choose(condition, yes, no), rest))
 }
 
 // An expression.
@@ -451,21 +436,6 @@ pub(crate) fn read_whole<'a>(
     ensures { Gives (reads_at limits whole_expression tokens.now) result }
 {
     read_expression(alloc, First::Any, tokens, limits)
-}
-
-// An expression in brackets that doesn't begin with a type.
-#[cycle(read)]
-#[tactic(auto, using(ooo_grammar::specs::Steps::steps), unfolding(ooo_grammar::specs::Expressions::inner_plain))]
-fn read_inner_plain<'a>(alloc: Global, tokens: &'a [Symbol<'a>], limits: Limits) -> Read<'a, Expr>
-    ensures { Gives (reads_at limits inner_plain tokens.now) result }
-{
-    if limits.levels > 0 {
-        return read_expression(alloc, First::Plain, tokens, limits.inside());
-    }
-    if begins_with_plain(tokens) {
-        return Err(ReadError::TooDeep(tokens.len()));
-    }
-    Err(ReadError::Syntax(tokens.len()))
 }
 
 // What a cast converts, after its type.
@@ -481,125 +451,8 @@ fn read_cast_to<'a>(
     ensures { Gives (reads_at limits (cast_to opening form) tokens.now) result }
 {
     let (_, rest) = got!(one(tokens, Terminal::Close, limits));
-    let (of, rest) = got!(read_operand(alloc, rest, limits));
-    Ok((Expr::Cast(opening.position, form, boxed(alloc, of)?), rest))
-}
-
-// What follows the first `long` of a type, one level deeper.
-#[tactic(auto, using(ooo_grammar::specs::Steps::deeper_gives))]
-fn read_long_inside<'a>(
-    bare: TypeForm,
-    full: TypeForm,
-    tokens: &'a [Symbol<'a>],
-    limits: Limits,
-) -> Read<'a, TypeForm>
-    ensures { Gives (reads_at limits (deeper (long_after bare full)) tokens.now) result }
-{
-    read_long_after(bare, full, tokens, limits.inside())
-}
-
-// An expression in parentheses that begins with a conversion, after `(` and the type.
-#[cycle(read)]
-#[tactic(auto, using(ooo_grammar::specs::Steps::steps), unfolding(ooo_grammar::specs::Expressions::conversion_first))]
-fn read_conversion_first<'a>(
-    alloc: Global,
-    opening: Mark,
-    form: TypeName,
-    tokens: &'a [Symbol<'a>],
-    limits: Limits,
-) -> Read<'a, Expr>
-    ensures { Gives (reads_at limits (conversion_first opening form) tokens.now) result }
-{
-    let (of, rest) = got!(read_expression(alloc, First::Converted(form), tokens, limits));
-    let found = parenthesized(alloc, opening, of)?;
-    followed(found, Terminal::Close, rest, limits)
-}
-
-// What follows `(` and a type of one word.
-#[cycle(read)]
-#[tactic(auto, using(ooo_grammar::specs::Steps::steps), unfolding(ooo_grammar::specs::Expressions::after_short_type))]
-fn read_after_short_type<'a>(
-    alloc: Global,
-    opening: Mark,
-    form: TypeName,
-    tokens: &'a [Symbol<'a>],
-    limits: Limits,
-) -> Read<'a, Expr>
-    ensures { Gives (reads_at limits (after_short_type opening form) tokens.now) result }
-{
-    if starts(tokens, Terminal::Close) {
-        return read_cast_to(alloc, opening, form, tokens, limits);
-    }
-    read_conversion_first(alloc, opening, form, tokens, limits)
-}
-
-// A cast, after `(` and the words up to the first `long`.
-#[cycle(read)]
-#[tactic(auto, using(ooo_grammar::specs::Steps::steps), unfolding(ooo_grammar::specs::Expressions::long_cast))]
-fn read_long_cast<'a>(
-    alloc: Global,
-    opening: Mark,
-    word: Mark,
-    bare: TypeForm,
-    full: TypeForm,
-    tokens: &'a [Symbol<'a>],
-    limits: Limits,
-) -> Read<'a, Expr>
-    ensures { Gives (reads_at limits (long_cast opening word bare full) tokens.now) result }
-{
-    let (form, rest) = got!(read_long_inside(bare, full, tokens, limits));
-    read_cast_to(alloc, opening, named_type(word, form), rest, limits)
-}
-
-// What follows `(` and `unsigned`.
-#[cycle(read)]
-#[tactic(auto, using(ooo_grammar::specs::Steps::steps), unfolding(ooo_grammar::specs::Expressions::after_unsigned_cast))]
-fn read_after_unsigned_cast<'a>(
-    alloc: Global,
-    opening: Mark,
-    word: Mark,
-    tokens: &'a [Symbol<'a>],
-    limits: Limits,
-) -> Read<'a, Expr>
-    ensures { Gives (reads_at limits (after_unsigned_cast opening word) tokens.now) result }
-{
-    if starts(tokens, Terminal::Int) {
-        let (_, rest) = got!(one_inside(tokens, Terminal::Int, limits));
-        return read_cast_to(
-            alloc,
-            opening,
-            named_type(word, TypeForm::UnsignedInt),
-            rest,
-            limits,
-        );
-    }
-    if starts(tokens, Terminal::Long) {
-        let (_, rest) = got!(one_inside(tokens, Terminal::Long, limits));
-        return read_long_cast(
-            alloc,
-            opening,
-            word,
-            TypeForm::UnsignedLongLong,
-            TypeForm::UnsignedLongLongInt,
-            rest,
-            limits,
-        );
-    }
-    read_after_short_type(
-        alloc,
-        opening,
-        named_type(word, TypeForm::Unsigned),
-        tokens,
-        limits,
-    )
-}
-
-// `bool` or `int`, one level deeper.
-#[tactic(auto, using(ooo_grammar::specs::Steps::deeper_gives))]
-fn read_plain_type_inside<'a>(tokens: &'a [Symbol<'a>], limits: Limits) -> Read<'a, TypeName>
-    ensures { Gives (reads_at limits (deeper plain_type) tokens.now) result }
-{
-    read_plain_type(tokens, limits.inside())
+    let (of, rest) = got!(read_first(alloc, First::Operand, rest, limits));
+    cast(alloc, opening, form, of, rest)
 }
 
 // An expression in parentheses that doesn't begin with a type, after `(`.
@@ -613,43 +466,19 @@ fn read_parenthesis<'a>(
 ) -> Read<'a, Expr>
     ensures { Gives (reads_at limits (parenthesis opening) tokens.now) result }
 {
-    let (of, rest) = got!(read_inner_plain(alloc, tokens, limits));
-    let found = parenthesized(alloc, opening, of)?;
-    followed(found, Terminal::Close, rest, limits)
+    let deeper = got!(deeper_limits(begins_with_plain(tokens), tokens, limits));
+    let (of, rest) = got!(read_expression(alloc, First::Plain, tokens, deeper));
+    read_close(alloc, opening, of, rest, limits)
 }
 
-// What follows `(`.
-#[cycle(read)]
-#[tactic(auto, using(ooo_grammar::specs::Steps::steps), unfolding(ooo_grammar::specs::Expressions::after_open))]
-fn read_after_open<'a>(
-    alloc: Global,
-    opening: Mark,
-    tokens: &'a [Symbol<'a>],
-    limits: Limits,
-) -> Read<'a, Expr>
-    ensures { Gives (reads_at limits (after_open opening) tokens.now) result }
+// Whether a cast follows `(` and a type: `)` tells after a type that a conversion may begin with.
+fn is_cast<'a>(form: TypeForm, tokens: &'a [Symbol<'a>]) -> bool
+    ensures { result ≡ is_cast form (begins_with (in_set (Terminal.Close ∷ [])) tokens.now) }
 {
-    if begins_with_plain_type(tokens) {
-        let (form, rest) = got!(read_plain_type_inside(tokens, limits));
-        return read_after_short_type(alloc, opening, form, rest, limits);
+    match form {
+        TypeForm::Bool | TypeForm::Int | TypeForm::Unsigned => starts(tokens, Terminal::Close),
+        _ => true,
     }
-    if starts(tokens, Terminal::Unsigned) {
-        let (word, rest) = got!(one_inside(tokens, Terminal::Unsigned, limits));
-        return read_after_unsigned_cast(alloc, opening, word, rest, limits);
-    }
-    if starts(tokens, Terminal::Long) {
-        let (word, rest) = got!(one_inside(tokens, Terminal::Long, limits));
-        return read_long_cast(
-            alloc,
-            opening,
-            word,
-            TypeForm::LongLong,
-            TypeForm::LongLongInt,
-            rest,
-            limits,
-        );
-    }
-    read_parenthesis(alloc, opening, tokens, limits)
 }
 
 // What `(` begins.
@@ -659,7 +488,15 @@ fn read_bracketed<'a>(alloc: Global, tokens: &'a [Symbol<'a>], limits: Limits) -
     ensures { Gives (reads_at limits bracketed tokens.now) result }
 {
     let (opening, rest) = got!(one(tokens, Terminal::Open, limits));
-    read_after_open(alloc, opening, rest, limits)
+    if !begins_with_type(rest) {
+        return read_parenthesis(alloc, opening, rest, limits);
+    }
+    let (form, rest) = got!(read_type(rest, limits.inside()));
+    if is_cast(form.form, rest) {
+        return read_cast_to(alloc, opening, form, rest, limits);
+    }
+    let (of, rest) = got!(read_expression(alloc, First::Converted(form), rest, limits));
+    read_close(alloc, opening, of, rest, limits)
 }
 
 // The word of a type that has no other.
@@ -688,16 +525,6 @@ fn read_short_type<'a>(tokens: &'a [Symbol<'a>], limits: Limits) -> Read<'a, Typ
         return read_type_word(TypeForm::Int, Terminal::Int, tokens, limits);
     }
     read_type_word(TypeForm::Unsigned, Terminal::Unsigned, tokens, limits)
-}
-
-// A conversion.
-#[cycle(read)]
-#[tactic(auto, using(ooo_grammar::specs::Steps::steps), unfolding(ooo_grammar::specs::Expressions::conversion))]
-fn read_conversion<'a>(alloc: Global, tokens: &'a [Symbol<'a>], limits: Limits) -> Read<'a, Expr>
-    ensures { Gives (reads_at limits conversion tokens.now) result }
-{
-    let (form, rest) = got!(read_short_type(tokens, limits));
-    read_converted(alloc, form, rest, limits)
 }
 
 // A number.
@@ -745,12 +572,13 @@ fn read_plain_unary<'a>(alloc: Global, tokens: &'a [Symbol<'a>], limits: Limits)
 
 // An operand.
 #[cycle(read)]
-#[tactic(auto, using(ooo_grammar::specs::Steps::steps), unfolding(ooo_grammar::specs::Expressions::unary))]
+#[tactic(auto, using(ooo_grammar::specs::Steps::steps), unfolding(ooo_grammar::specs::Expressions::unary, ooo_grammar::specs::Expressions::conversion))]
 fn read_unary<'a>(alloc: Global, tokens: &'a [Symbol<'a>], limits: Limits) -> Read<'a, Expr>
     ensures { Gives (reads_at limits unary tokens.now) result }
 {
     if begins_with_short_type(tokens) {
-        return read_conversion(alloc, tokens, limits);
+        let (form, rest) = got!(read_short_type(tokens, limits));
+        return read_converted(alloc, form, rest, limits);
     }
     read_plain_unary(alloc, tokens, limits)
 }

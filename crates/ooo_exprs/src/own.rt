@@ -1,7 +1,7 @@
 ghost use Rattle.ooo_grammar.specs.Expressions.{counted_sum, inner_value, sum, value};
 ghost use Rattle.ooo_grammar.specs.Gives.{Gives, reads_at};
 
-use crate::expressions::{First, boxed, read_boxed_inner, read_inner, read_level, read_whole};
+use crate::expressions::{First, boxed_read, read_boxed_inner, read_inner, read_level, read_whole};
 use ooo_grammar::{Limits, Read};
 use ooo_syntax::{Expr, Symbol};
 use sqlite_items::Boxed;
@@ -37,7 +37,7 @@ pub fn read_boxed_value<'a>(
     ensures { Gives (reads_at limits value tokens.now) result }
 {
     let (found, rest) = got!(read_value(alloc, tokens, limits));
-    Ok((boxed(alloc, found)?, rest))
+    boxed_read(alloc, found, rest)
 }
 
 /// The same, one level deeper.

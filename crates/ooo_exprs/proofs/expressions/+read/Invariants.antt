@@ -10,86 +10,26 @@ use Rattle.ooo_exprs.proofs.expressions.+read.Given as goal
 abbrev pub decreases-read_inner : goal.decreases-read_inner
 decreases-read_inner l = l.limits.levels * 64 + 0
 
+abbrev pub decreases-read_boxed_inner : goal.decreases-read_boxed_inner
+decreases-read_boxed_inner l = l.limits.levels * 64 + 1
+
 abbrev pub decreases-read_index : goal.decreases-read_index
 decreases-read_index l = l.limits.levels * 64 + 2
 
-abbrev pub decreases-read_operand : goal.decreases-read_operand
-decreases-read_operand l = l.limits.levels * 64 + 0
-
 abbrev pub decreases-read_arguments : goal.decreases-read_arguments
-decreases-read_arguments l = l.limits.levels * 64 + 4
-
-abbrev pub decreases-read_expressions : goal.decreases-read_expressions
-decreases-read_expressions l = l.limits.levels * 64 + 3
-
-abbrev pub decreases-read_item : goal.decreases-read_item
-decreases-read_item l = l.limits.levels * 64 + 1
+decreases-read_arguments l = l.limits.levels * 64 + 3
 
 abbrev pub decreases-read_some : goal.decreases-read_some
 decreases-read_some l = l.limits.levels * 64 + 2
 
 abbrev pub decreases-read_member : goal.decreases-read_member
-decreases-read_member l = l.limits.levels * 64 + 3
-
-abbrev pub decreases-read_option_in_parens : goal.decreases-read_option_in_parens
-decreases-read_option_in_parens l = l.limits.levels * 64 + 2
-
-abbrev pub decreases-read_boxed_inner : goal.decreases-read_boxed_inner
-decreases-read_boxed_inner l = l.limits.levels * 64 + 1
-
-abbrev pub decreases-read_after_word : goal.decreases-read_after_word
-decreases-read_after_word l = l.limits.levels * 64 + 5
+decreases-read_member l = l.limits.levels * 64 + 2
 
 abbrev pub decreases-read_named : goal.decreases-read_named
 decreases-read_named l = l.limits.levels * 64 + 6
 
 abbrev pub decreases-read_prefixed : goal.decreases-read_prefixed
-decreases-read_prefixed l = l.limits.levels * 64 + 2
-
-abbrev pub decreases-read_prefixed_by : goal.decreases-read_prefixed_by
-decreases-read_prefixed_by l = l.limits.levels * 64 + 1
-
-abbrev pub decreases-read_chosen : goal.decreases-read_chosen
-decreases-read_chosen l = l.limits.levels * 64 + 2
-
-abbrev pub decreases-read_converted : goal.decreases-read_converted
-decreases-read_converted l = l.limits.levels * 64 + 2
-
-abbrev pub decreases-read_inner_plain : goal.decreases-read_inner_plain
-decreases-read_inner_plain l = l.limits.levels * 64 + 0
-
-abbrev pub decreases-read_cast_to : goal.decreases-read_cast_to
-decreases-read_cast_to l = l.limits.levels * 64 + 1
-
-abbrev pub decreases-read_conversion_first : goal.decreases-read_conversion_first
-decreases-read_conversion_first l = l.limits.levels * 64 + 18
-
-abbrev pub decreases-read_after_short_type : goal.decreases-read_after_short_type
-decreases-read_after_short_type l = l.limits.levels * 64 + 19
-
-abbrev pub decreases-read_long_cast : goal.decreases-read_long_cast
-decreases-read_long_cast l = l.limits.levels * 64 + 2
-
-abbrev pub decreases-read_after_unsigned_cast : goal.decreases-read_after_unsigned_cast
-decreases-read_after_unsigned_cast l = l.limits.levels * 64 + 20
-
-abbrev pub decreases-read_parenthesis : goal.decreases-read_parenthesis
-decreases-read_parenthesis l = l.limits.levels * 64 + 1
-
-abbrev pub decreases-read_after_open : goal.decreases-read_after_open
-decreases-read_after_open l = l.limits.levels * 64 + 21
-
-abbrev pub decreases-read_bracketed : goal.decreases-read_bracketed
-decreases-read_bracketed l = l.limits.levels * 64 + 22
-
-abbrev pub decreases-read_conversion : goal.decreases-read_conversion
-decreases-read_conversion l = l.limits.levels * 64 + 3
-
-abbrev pub decreases-read_plain_unary : goal.decreases-read_plain_unary
-decreases-read_plain_unary l = l.limits.levels * 64 + 23
-
-abbrev pub decreases-read_unary : goal.decreases-read_unary
-decreases-read_unary l = l.limits.levels * 64 + 24
+decreases-read_prefixed l = l.limits.levels * 64 + 6
 
 abbrev pub decreases-read_first : goal.decreases-read_first
 decreases-read_first l = l.limits.levels * 64 + rank_of l.first
@@ -99,6 +39,24 @@ decreases-read_level l = l.limits.levels * 64 + (rank_of l.first + (11 - l.numbe
 
 abbrev pub decreases-read_expression : goal.decreases-read_expression
 decreases-read_expression l = l.limits.levels * 64 + (rank_of l.first + 12)
+
+abbrev pub decreases-read_converted : goal.decreases-read_converted
+decreases-read_converted l = l.limits.levels * 64 + 2
+
+abbrev pub decreases-read_cast_to : goal.decreases-read_cast_to
+decreases-read_cast_to l = l.limits.levels * 64 + 6
+
+abbrev pub decreases-read_parenthesis : goal.decreases-read_parenthesis
+decreases-read_parenthesis l = l.limits.levels * 64 + 1
+
+abbrev pub decreases-read_bracketed : goal.decreases-read_bracketed
+decreases-read_bracketed l = l.limits.levels * 64 + 22
+
+abbrev pub decreases-read_plain_unary : goal.decreases-read_plain_unary
+decreases-read_plain_unary l = l.limits.levels * 64 + 23
+
+abbrev pub decreases-read_unary : goal.decreases-read_unary
+decreases-read_unary l = l.limits.levels * 64 + 24
 
 abbrev pub invariant-read_level-turns : goal.invariant-read_level-turns
 invariant-read_level-turns l = level_at l.limits l.first l.number l.tokens ≡ repeats_in (in_set (kinds_at l.number)) (turn_at l.limits l.first l.number) (l._turn-end - l._turn) l.left l.rest
