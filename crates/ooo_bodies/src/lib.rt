@@ -20,7 +20,7 @@ macro_rules! keeping {
     };
 }
 
-// What was made: of a `?`, the walk of a large value costs twice as much.
+// What was made: the walk of a `?` on a large value costs more.
 macro_rules! got {
     ($made:expr) => {
         match $made {

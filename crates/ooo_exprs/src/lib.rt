@@ -14,7 +14,7 @@ macro_rules! keeping {
     };
 }
 
-// What was read, or the refusal of it: of a `?`, the walk of a large value costs twice as much.
+// What was read, or the refusal of it: the walk of a `?` on a large value costs more.
 macro_rules! got {
     ($read:expr) => {
         match $read {

@@ -80,16 +80,16 @@ impl<'a> Message<'a> {
         self.end_shown(at);
     }
 
+    /// Begins to say something that belongs to the place that was shown last.
+    pub fn begin_hint(&mut self) {
+        self.sheet.put("note: ");
+    }
+
     /// Says something that belongs to the place that was shown last.
     pub fn hint(&mut self, what: &str) {
         self.begin_hint();
         self.words(what);
         self.end();
-    }
-
-    /// Begins to say something that belongs to the place that was shown last.
-    pub fn begin_hint(&mut self) {
-        self.sheet.put("note: ");
     }
 
     /// What was said, unless memory ran out.

@@ -4,7 +4,6 @@ use Rattle.ooo_lexer.specs.declared.position.Position.{Position}
 use Rattle.ooo_value.specs.declared.kinds.Kind.{Kind}
 use Rattle.ooo_value.specs.declared.values.Value.TheVariants as value
 use Rattle.ooo_syntax.specs.declared.leaves.Number.{Number}
-use Rattle.ooo_syntax.specs.declared.leaves.TypeName.{TypeName}
 use Rattle.ooo_syntax.specs.declared.leaves.Word.{Word}
 use Rattle.ooo_syntax.specs.declared.expr.PrefixOp.{PrefixOp}
 use Rattle.ooo_syntax.specs.declared.expr.BinaryOp.{BinaryOp}
@@ -15,7 +14,6 @@ use Rattle.ooo_checked.specs.declared.denotation.Resolved.{Resolved}
 use Rattle.ooo_checked.specs.declared.expr.CheckedExpr.{CheckedExpr, CheckedExpr-F, map-CheckedExpr, roll-CheckedExpr, fold-roll-CheckedExpr}
 use Rattle.ooo_checked.specs.declared.expr.CheckedExpr.TheOpen as layer
 use Rattle.ooo_checked.specs.declared.expr.CheckedExpr.TheVariants as tree
-use Rattle.ooo_checked.specs.Exprs.{kind_written}
 use Rattle.ooo_constants.specs.Values.{operator_of}
 use Rattle.ooo_numbers.specs.Exprs.{expr_of, expr_step, method_of, name_of, nothing, operated, prefixed}
 use Rattle.ooo_numbers.specs.Names.{Numbering, variable_of}
@@ -56,14 +54,6 @@ module _ (n : Numbering) where
   pub expr_of-Prefix : (k : Kind) (at : Position) (op : PrefixOp) (e : CheckedExpr) →
       expr_of n (tree.Prefix k at op e) ≡ prefixed op (expr_of n e)
   expr_of-Prefix k at op e = ap (expr_of n) (sym (tree.rolls-Prefix k at op e)) ∙ at_layer n (layer.Prefix k at op e)
-
-  pub expr_of-Cast : (k : Kind) (at : Position) (t : TypeName) (e : CheckedExpr) →
-      expr_of n (tree.Cast k at t e) ≡ bound.Convert (kind_written t.form) (expr_of n e)
-  expr_of-Cast k at t e = ap (expr_of n) (sym (tree.rolls-Cast k at t e)) ∙ at_layer n (layer.Cast k at t e)
-
-  pub expr_of-Conversion : (k : Kind) (t : TypeName) (e : CheckedExpr) →
-      expr_of n (tree.Conversion k t e) ≡ bound.Convert (kind_written t.form) (expr_of n e)
-  expr_of-Conversion k t e = ap (expr_of n) (sym (tree.rolls-Conversion k t e)) ∙ at_layer n (layer.Conversion k t e)
 
   -- forms that hold more
   pub expr_of-Binary : (k : Kind) (sign : BinaryOp) (a b : CheckedExpr) →

@@ -87,6 +87,7 @@ fn joined(sign: BinaryOp, a: Boxed<BoundExpr>, b: Boxed<BoundExpr>) -> BoundExpr
     }
 }
 
+// What is made already, onto the heap.
 fn boxed_tree(alloc: Global, tree: BoundExpr) -> Result<Boxed<BoundExpr>, AllocError>
     ensures { IfOk result (λ boxed. boxed ≡ tree) }
 {

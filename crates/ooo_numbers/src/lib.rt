@@ -17,7 +17,7 @@ macro_rules! keeping {
     };
 }
 
-// What was made, or that memory ran out: of a `?`, the walk of a large value costs twice as much.
+// What was made, or that memory ran out: the walk of a `?` on a large value costs more.
 macro_rules! got {
     ($made:expr) => {
         match $made {

@@ -18,6 +18,7 @@ use ooo_value::Kind;
 use sqlite_items::{Boxed, Items};
 use std::alloc::{AllocError, Global};
 
+// A list with one statement more at its end.
 fn with_stat(mut list: Items<BoundStat>, more: BoundStat) -> Result<Items<BoundStat>, AllocError>
     ensures { IfOk result (λ all. all ≡ list ++ more ∷ []) }
 {
@@ -25,6 +26,7 @@ fn with_stat(mut list: Items<BoundStat>, more: BoundStat) -> Result<Items<BoundS
     Ok(list)
 }
 
+// A statement that is made already, onto the heap.
 fn boxed_stat(alloc: Global, tree: BoundStat) -> Result<Boxed<BoundStat>, AllocError>
     ensures { IfOk result (λ boxed. boxed ≡ tree) }
 {

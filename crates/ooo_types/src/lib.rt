@@ -20,7 +20,7 @@ macro_rules! keeping {
     };
 }
 
-// The same where no value has to be let go: of a `?`, the walk of a large value costs twice as much.
+// The same where no value has to be let go: the walk of a `?` on a large value costs more.
 macro_rules! got {
     ($made:expr) => {
         match $made {

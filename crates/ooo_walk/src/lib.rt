@@ -17,7 +17,7 @@ macro_rules! keeping {
     };
 }
 
-// What was made, or the failure of it: of a `?`, the walk of a large value costs twice as much.
+// What was made, or the failure of it: the walk of a `?` on a large value costs more.
 macro_rules! got {
     ($made:expr) => {
         match $made {
