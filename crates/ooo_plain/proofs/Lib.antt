@@ -28,5 +28,7 @@ pub mod Evaluating
 pub mod Cycling
 pub mod Beginning
 pub mod Ending
+pub mod Forms
+pub mod Filling
 pub mod Reaching
 pub mod First

@@ -74,6 +74,27 @@ module _ (k : Due) where
     go true f = refl
     go false f = apart q f
 
+  -- nothing is in both parts still, where the first part lost the key
+  pub apart_less : (a b a' : Due → Bool) → Loses k a a' → AreApart a b → AreApart a' b
+  apart_less a b a' h apart q e = go (is_eq (due_cmp k q)) (sym (h q) ∙ e) where
+    go : (x : Bool) → cond x false (a q) ≡ true → b q ≡ false
+    go true f = let g : false ≡ true = f in absurd cc
+    go false f = apart q f
+
+  -- the first part alone had the key
+  pub loses_left : (a b a' : Due → Bool) → Loses k a a' → a k ≡ true → AreApart a b → Loses k (λ q. a q || b q) (λ q. a' q || b q)
+  loses_left a b a' h had apart q = ap (λ x. x || b q) (h q) ∙ go (is_eq (due_cmp k q)) refl where
+    go : (e : Bool) → is_eq (due_cmp k q) ≡ e → (cond e false (a q) || b q) ≡ cond e false (a q || b q)
+    go true s = ap b (sym (key_same k q s)) ∙ apart k had
+    go false s = refl
+
+  -- where the key isn't, nothing is taken out
+  pub loses_none : (a : Due → Bool) → a k ≡ false → Loses k a a
+  loses_none a none q = go (is_eq (due_cmp k q)) refl where
+    go : (e : Bool) → is_eq (due_cmp k q) ≡ e → a q ≡ cond e false (a q)
+    go true s = ap a (sym (key_same k q s)) ∙ none
+    go false s = refl
+
   pub gains_left : (a b a' : Due → Bool) → Gains k a a' → Gains k (λ q. a q || b q) (λ q. a' q || b q)
   gains_left a b a' h q = ap (λ x. x || b q) (h q) ∙ go (is_eq (due_cmp k q)) where
     go : (e : Bool) → (cond e true (a q) || b q) ≡ cond e true (a q || b q)
@@ -102,6 +123,13 @@ pub neither_part : {a b : Bool} → (a || b) ≡ false → (a ≡ false) × (b �
 neither_part {a} {b} e = (false_from_ne_true a (λ h. no_both (or_left a b h) e), false_from_ne_true b (λ h. no_both (or_right a b h) e))
 
 -- ---- a process is removed from a row
+
+-- nobody stands in a row for another stamp, or whose process isn't there
+pub not_at : (row : RowState) (k : Due) → k.stamp ≢ row.stamp → stands_in row k ≡ false
+not_at row k ne = false_from_ne_true _ (λ e. ne (stands_is row k e).0)
+
+pub not_among : (row : RowState) (k : Due) → is_among row.processes k.process ≡ false → stands_in row k ≡ false
+not_among row k none = false_from_ne_true _ (λ e. no_both (stands_is row k e).1 none)
 
 among_others : (ps : List ℕ) (i p : ℕ) → i < length ps → get_or ps i 0 ≢ p → is_among (remove ps i) p ≡ is_among ps p
 among_others [] i p lt ne = absurd (omega (arith, lt))
@@ -266,6 +294,11 @@ module _ {E : Type 0} (k : Due) (even odd : RowState) where
   pushed_odd new (Err e) h = (tt, ap (λ o. rows_of even o) h.1)
 
   module _ (none : stands_among (rows_of even odd) k ≡ false) (apart : AreApart (stands_in even) (stands_in odd)) where
+    pub apart_even : (new : RowState) (r : Result Bool E) → Pushed k stands_in even new r → AreApart (stands_in new) (stands_in odd)
+    apart_even new (Ok true) h = apart_left k (stands_in even) (stands_in odd) (stands_in new) h.0 (neither_part none).1 apart
+    apart_even new (Ok false) h = subst (λ r. AreApart (stands_in r) (stands_in odd)) (sym h.0) apart
+    apart_even new (Err e) h = subst (λ r. AreApart (stands_in r) (stands_in odd)) (sym h.1) apart
+
     pub apart_odd : (new : RowState) (r : Result Bool E) → Pushed k stands_in odd new r → AreApart (stands_in even) (stands_in new)
     apart_odd new (Ok true) h = apart_right k (stands_in even) (stands_in odd) (stands_in new) h.0 (neither_part none).0 apart
     apart_odd new (Ok false) h = subst (λ r. AreApart (stands_in even) (stands_in r)) (sym h.0) apart

@@ -68,9 +68,10 @@ impl DueQueue {
     pub fn remove(&mut self, due: Due)
         ensures { Loses due (is_in self.old) (is_in self.new) }
     {
-        if !self.rows.remove(due) {
-            self.others.remove(&due);
+        if self.rows.remove(due) {
+            return;
         }
+        self.others.remove(&due);
     }
 
     /// Adds one that isn't in it.

@@ -86,7 +86,7 @@ impl Engine {
             ports: mem::replace(&mut self.ports, Ports::new(alloc)),
             fifos: BankFifos::new(design, &self.bank, self.stamp),
         };
-        let halt = run_process(&mut lent, emitted, design, start)?;
+        let halt = keeping!(lent; run_process(&mut lent, emitted, design, start));
         let Whole {
             slots,
             variables,

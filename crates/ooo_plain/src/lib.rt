@@ -4,6 +4,19 @@
 //! (`Engine::cycle`), and tells at the end what its run gave (`run::finish`).
 #![tactic(auto)]
 
+// What is made while values that were made before are kept: where nothing is, they go.
+macro_rules! keeping {
+    ($($kept:ident),+; $made:expr) => {
+        match $made {
+            Ok(found) => found,
+            Err(error) => {
+                $(drop($kept);)+
+                return Err(error);
+            }
+        }
+    };
+}
+
 mod agenda;
 mod bank_fifos;
 mod cycles;

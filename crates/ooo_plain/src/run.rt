@@ -12,6 +12,7 @@ use crate::cycles::CycleEnd;
 use crate::engine::Engine;
 use crate::laws::laws;
 use crate::starting::start;
+use ooo_channels::Bank;
 use ooo_code::{Design, Limits, Proc};
 use ooo_history::{End, Piece, Run};
 use ooo_interp::Emitted;
@@ -82,7 +83,8 @@ pub fn run_on(
     let mut engine = engine;
     let mut emitted = Emitted::new(alloc);
     'cycles: loop {
-        match engine.cycle(alloc, design, &mut emitted, &limits)? {
+        let next = keeping!(engine, emitted; engine.cycle(alloc, design, &mut emitted, &limits));
+        match next {
             CycleEnd::Over(end, at) => {
                 return finish(alloc, engine, end, at);
             }
@@ -101,15 +103,40 @@ pub fn finish(alloc: Global, engine: Engine, end: End, at: Stamp) -> Result<Run,
     requires { (design : DesignSpec) × (w : World) × IsOver design engine at w }
     ensures { IfOk result (ShowsOver engine at end) }
 {
-    let channels = engine.bank.into_histories(alloc, at)?;
-    let activations = engine.activations;
-    let pieces = one_piece(alloc, engine.output)?;
+    let Told {
+        bank,
+        output,
+        activations,
+    } = told_by(engine);
+    let channels = keeping!(output; bank.into_histories(alloc, at));
+    let pieces = keeping!(channels; one_piece(alloc, output));
     Ok(Run {
         pieces,
         channels: Items::from_vec(channels),
         end,
         activations,
     })
+}
+
+// What an engine tells when its run is over.
+#[derive(Drop)]
+struct Told {
+    bank: Bank,
+    output: Vec<u8>,
+    activations: u128,
+}
+
+// What an engine tells; all else of it goes.
+fn told_by(engine: Engine) -> Told
+    ensures bank { result.bank ≡ engine.bank }
+    ensures output { result.output ≡ engine.output }
+    ensures activations { result.activations ≡ engine.activations }
+{
+    Told {
+        bank: engine.bank,
+        output: engine.output,
+        activations: engine.activations,
+    }
 }
 
 // What was printed, in one piece.

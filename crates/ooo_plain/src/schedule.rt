@@ -34,10 +34,13 @@ impl Schedule {
     pub fn new(alloc: Global, processes: usize, events: usize) -> Result<Schedule, AllocError>
         ensures { IfOk result (IsNew processes events) }
     {
+        let agenda = Agenda::new(alloc, processes)?;
+        let awaited = keeping!(agenda; idle_processes(alloc, processes));
+        let waiters = keeping!(agenda, awaited; empty_lists(alloc, events));
         Ok(Schedule {
-            agenda: Agenda::new(alloc, processes)?,
-            awaited: idle_processes(alloc, processes)?,
-            waiters: empty_lists(alloc, events)?,
+            agenda,
+            awaited,
+            waiters,
         })
     }
 

@@ -30,17 +30,8 @@ pub fn start(alloc: Global, design: &Design) -> Result<Engine, AllocError>
     ensures { IfOk result (Starts design.now) }
 {
     let bank = Bank::make(alloc, design)?;
-    let schedule = begin(alloc, design, &bank)?;
-    let processes = first_processes(alloc, design.processes.as_slice())?;
-    let shown_channels = all_shown_channels(alloc, design)?;
-    let channel_events = all_channel_events(alloc, design)?;
-    let variables = first_variables(alloc, design.variables.as_slice())?;
-    let parts = Parts {
-        processes,
-        shown_channels,
-        channel_events,
-        variables,
-    };
+    let schedule = keeping!(bank; begin(alloc, design, &bank));
+    let parts = keeping!(bank, schedule; parts_of(alloc, design));
     Ok(assemble(alloc, design, bank, schedule, parts))
 }
 
@@ -51,6 +42,34 @@ struct Parts {
     shown_channels: Vec<Vec<u32>>,
     channel_events: Vec<Vec<u32>>,
     variables: Vec<Cells>,
+}
+
+// What an engine of a design starts with, beside its bank and its schedule.
+fn parts_of(alloc: Global, design: &Design) -> Result<Parts, AllocError>
+    requires sound { IsSound design.now }
+    requires few { IsFew design.now }
+    ensures processes { IfOk result (λ parts.
+        AreFirstProcesses design.now.processes parts.processes.items) }
+    ensures shown { IfOk result (λ parts. let lists = lists_of parts.shown_channels.items in
+        AreShownChannels design.now (length design.now.processes) lists) }
+    ensures channel_events { IfOk result (λ parts.
+        AreChannelEvents design.now (lists_of parts.channel_events.items)) }
+    ensures variables { IfOk result (λ parts.
+        parts.variables.items ≡ first_cells design.now.variables) }
+{
+    let processes = first_processes(alloc, design.processes.as_slice())?;
+    let shown_channels = keeping!(processes; all_shown_channels(alloc, design));
+    let channel_events = keeping!(processes, shown_channels; all_channel_events(alloc, design));
+    let variables = keeping!(
+        processes, shown_channels, channel_events;
+        first_variables(alloc, design.variables.as_slice())
+    );
+    Ok(Parts {
+        processes,
+        shown_channels,
+        channel_events,
+        variables,
+    })
 }
 
 // The engine of its parts.
@@ -97,7 +116,7 @@ fn begin(alloc: Global, design: &Design, bank: &Bank) -> Result<Schedule, AllocE
     let processes = design.processes.as_slice();
     let mut schedule = Schedule::new(alloc, processes.len(), design.events.len())?;
     for p in 0..processes.len() {
-        begin_one(alloc, design, bank, &mut schedule, p)?;
+        keeping!(schedule; begin_one(alloc, design, bank, &mut schedule, p));
     }
     Ok(schedule)
 }
@@ -134,9 +153,10 @@ fn first_processes(alloc: Global, bound: &[Proc]) -> Result<Vec<Process>, AllocE
 {
     let mut made = Vec::new(alloc);
     for process in bound {
+        let slots = keeping!(made; zeros(alloc, process.slots.as_slice()));
         made.push(Process {
             entry: SegmentEntry::Start,
-            slots: zeros(alloc, process.slots.as_slice())?,
+            slots,
         })?;
     }
     Ok(made)
@@ -170,7 +190,7 @@ fn all_channel_events(alloc: Global, design: &Design) -> Result<Vec<Vec<u32>>, A
     let mut channel_events = no_events(alloc, design.channels.len())?;
     let events = design.events.as_slice();
     for e in 0..events.len() {
-        add_event(design, &mut channel_events, e, events[e])?;
+        keeping!(channel_events; add_event(design, &mut channel_events, e, events[e]));
     }
     Ok(channel_events)
 }

@@ -24,7 +24,8 @@ pub fn all_shown_channels(alloc: Global, design: &Design) -> Result<Vec<Vec<u32>
     let processes = design.processes.as_slice();
     let mut lists = Vec::new(alloc);
     for p in 0..processes.len() {
-        lists.push(shown_channels_of(alloc, design, &processes[p])?)?;
+        let shown = keeping!(lists; shown_channels_of(alloc, design, &processes[p]));
+        lists.push(shown)?;
     }
     Ok(lists)
 }
@@ -48,7 +49,7 @@ fn told_of(alloc: Global, count: usize, nodes: &[Node]) -> Result<Vec<u32>, Allo
 {
     let mut told = Vec::new(alloc);
     for node in nodes {
-        tell_node(&mut told, count, &node.kind)?;
+        keeping!(told; tell_node(&mut told, count, &node.kind));
     }
     Ok(told)
 }

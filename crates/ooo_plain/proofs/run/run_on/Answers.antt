@@ -11,13 +11,13 @@ cycle-requires-clause-counts c = counts_below c.args.design.now c.args.limits c.
 pub finish-requires : goal.finish-requires
 finish-requires c =
     let over = is_over c.args.design.now c.args.limits c.in-Over.end c.in-Over.at c.cycles.engine c.cycle.new.self
-    (subst (λ t. Cycles c.args.design.now c.args.limits t c.cycles.engine c.cycle.new.self) c.in-Over.is c.in_ok-end.ensures) c.cycles.invariant in
+    (subst (λ t. Cycles c.args.design.now c.args.limits t c.cycles.engine c.cycle.new.self) c.in-Over.is c.in-Ok.ensures) c.cycles.invariant in
     (c.args.design.now, over.0, over.1)
 
 pub returns-in-Over : goal.returns-in-Over
 returns-in-Over c = IfOk-weaker c.finish.result (ShowsOver c.cycle.new.self c.in-Over.at c.in-Over.end) (ShowsRun c.args.design.now c.args.limits) (λ run shows. shows_run c.args.design.now c.args.limits c.in-Over.end c.in-Over.at c.cycles.engine c.cycle.new.self run
-    (subst (λ t. Cycles c.args.design.now c.args.limits t c.cycles.engine c.cycle.new.self) c.in-Over.is c.in_ok-end.ensures) c.cycles.invariant shows) c.finish.ensures
+    (subst (λ t. Cycles c.args.design.now c.args.limits t c.cycles.engine c.cycle.new.self) c.in-Over.is c.in-Ok.ensures) c.cycles.invariant shows) c.finish.ensures
 
 pub cycles-preserved : goal.cycles-preserved
 cycles-preserved c = reaches_next c.args.design.now c.args.limits c.cycles.engine c.cycle.new.self
-    (subst (λ t. Cycles c.args.design.now c.args.limits t c.cycles.engine c.cycle.new.self) c.in-Goes.is c.in_ok-end.ensures) c.cycles.invariant
+    (subst (λ t. Cycles c.args.design.now c.args.limits t c.cycles.engine c.cycle.new.self) c.in-Goes.is c.in-Ok.ensures) c.cycles.invariant

@@ -9,5 +9,5 @@ loop-p-init c = subst (λ xs. AreShownChannels c.args.design.now 0 (lists_of xs)
 
 pub loop-p-preserved : goal.loop-p-preserved
 loop-p-preserved c =
-    shown_push c.args.design.now c.loop-p.p c.index-processes-p.result c.as_slice-processes.result.now c.as_slice-processes.ensures c.loop-p-test.true c.index-processes-p.is c.loop-p.lists.items c.push.new.self.items c.in_ok-shown_channels_of.field-0
-    c.in_ok-push.ensures.items c.loop-p.invariant c.in_ok-shown_channels_of.ensures
+    shown_push c.args.design.now c.loop-p.p c.index-processes-p.result c.as_slice-processes.result.now c.as_slice-processes.ensures c.loop-p-test.true c.index-processes-p.is c.loop-p.lists.items c.push.new.self.items c.in-Ok.found
+    c.in_ok-push.ensures.items c.loop-p.invariant c.in-Ok.ensures
