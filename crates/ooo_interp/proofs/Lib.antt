@@ -13,3 +13,4 @@ pub mod Placed
 pub mod Stable
 pub mod Views
 pub mod JobLemmas
+pub mod Readings

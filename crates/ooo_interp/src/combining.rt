@@ -1,5 +1,4 @@
-//! Operators on two values. What `binary` answers is taken apart and put together again where it is handed on: so no
-//! other arm hands its own answer through memory.
+//! Operators on two values.
 
 ghost use Rattle.std.specs.Prelude.{◌≡◌, ℤ, SomeIff, FitsSigned};
 ghost use Rattle.std.specs.Int.{w32, w64};
@@ -19,8 +18,17 @@ pub(crate) fn combine(op: Op, a: Value, b: Value) -> Result<Value, Fault>
         (Value::Uint(x), Value::Uint(y)) => on_uints(op, x, y),
         (Value::Long(x), Value::Long(y)) => on_longs(op, x, y),
         (Value::Ulong(x), Value::Ulong(y)) => on_ulongs(op, x, y),
-        _ => Ok(binary(op, a, b)?),
+        _ => by_any(op, a, b),
     }
+}
+
+// An operator on any two values. What it answers is taken apart and put together again: so no arm that calls this has
+// its own answer handed through memory.
+#[inline(always)]
+fn by_any(op: Op, a: Value, b: Value) -> Result<Value, Fault>
+    ensures { result ≡ binary_of op a b }
+{
+    Ok(binary(op, a, b)?)
 }
 
 // An operator on two values of kind int.
@@ -42,7 +50,7 @@ fn on_ints(op: Op, x: i32, y: i32) -> Result<Value, Fault>
         Op::Greater => Ok(Value::Bool(x > y)),
         Op::GreaterOrEqual => Ok(Value::Bool(x >= y)),
         Op::Divide | Op::Remainder | Op::ShiftLeft | Op::ShiftRight => {
-            Ok(binary(op, Value::Int(x), Value::Int(y))?)
+            by_any(op, Value::Int(x), Value::Int(y))
         }
     }
 }
@@ -66,7 +74,7 @@ fn on_uints(op: Op, x: u32, y: u32) -> Result<Value, Fault>
         Op::Greater => Ok(Value::Bool(x > y)),
         Op::GreaterOrEqual => Ok(Value::Bool(x >= y)),
         Op::Divide | Op::Remainder | Op::ShiftLeft | Op::ShiftRight => {
-            Ok(binary(op, Value::Uint(x), Value::Uint(y))?)
+            by_any(op, Value::Uint(x), Value::Uint(y))
         }
     }
 }
@@ -89,7 +97,7 @@ fn on_longs(op: Op, x: i64, y: i64) -> Result<Value, Fault>
         Op::Greater => Ok(Value::Bool(x > y)),
         Op::GreaterOrEqual => Ok(Value::Bool(x >= y)),
         Op::Divide | Op::Remainder | Op::ShiftLeft | Op::ShiftRight => {
-            Ok(binary(op, Value::Long(x), Value::Long(y))?)
+            by_any(op, Value::Long(x), Value::Long(y))
         }
     }
 }
@@ -112,7 +120,7 @@ fn on_ulongs(op: Op, x: u64, y: u64) -> Result<Value, Fault>
         Op::Greater => Ok(Value::Bool(x > y)),
         Op::GreaterOrEqual => Ok(Value::Bool(x >= y)),
         Op::Divide | Op::Remainder | Op::ShiftLeft | Op::ShiftRight => {
-            Ok(binary(op, Value::Ulong(x), Value::Ulong(y))?)
+            by_any(op, Value::Ulong(x), Value::Ulong(y))
         }
     }
 }

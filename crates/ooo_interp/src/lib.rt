@@ -10,6 +10,19 @@
 //! all, it carries what its segment touches.
 #![tactic(auto)]
 
+// What is made while values that were made before are kept: where nothing is, they go.
+macro_rules! keeping {
+    ($($kept:ident),+; $made:expr) => {
+        match $made {
+            Ok(found) => found,
+            Err(error) => {
+                $(drop($kept);)+
+                return Err(error);
+            }
+        }
+    };
+}
+
 mod acting;
 mod changes;
 mod choices;

@@ -45,7 +45,8 @@ pub fn run_segment(alloc: Global, job: Job) -> Result<Done, AllocError>
         copied,
         seen,
     } = job;
-    let mut parts = parts_of(alloc, design.variables.len(), slots, owned, copied, seen)?;
+    let count = design.variables.len();
+    let mut parts = keeping!(design; parts_of(alloc, count, slots, owned, copied, seen));
     let start = Start {
         process,
         entry,
@@ -53,9 +54,9 @@ pub fn run_segment(alloc: Global, job: Job) -> Result<Done, AllocError>
         statements,
     };
     let mut emitted = Emitted::new(alloc);
-    let halt = run_process(&mut parts, &mut emitted, &design, start)?;
+    let halt = keeping!(parts, emitted; run_process(&mut parts, &mut emitted, &design, start));
     let entry = halt.entry_after(entry);
-    let end = own_end(alloc, halt)?;
+    let end = keeping!(parts, emitted; own_end(alloc, halt));
     Ok(Done {
         process,
         activation,
@@ -83,7 +84,7 @@ fn parts_of(
     requires seen { SeenAscend seen.items × All IsFew seen.items }
     ensures { IfOk result (AreLent count slots owned.items copied.items seen.items) }
 {
-    let ports = ports_of(alloc, seen.as_slice())?;
+    let ports = keeping!(slots, owned, copied, seen; ports_of(alloc, seen.as_slice()));
     let fifos = SeenFifos::new(seen);
     let first = first_of(owned.as_slice());
     let in_order = in_order(owned.as_slice(), first);
@@ -133,7 +134,7 @@ fn ports_of(alloc: Global, seen: &[Seen]) -> Result<Ports, AllocError>
 {
     let mut ports = Ports::with_capacity(alloc, seen.len())?;
     for channel in seen {
-        ports.push(port_of(channel))?;
+        keeping!(ports; ports.push(port_of(channel)));
     }
     Ok(ports)
 }

@@ -18,11 +18,11 @@ new-fifos-requires c = record { ascending = c.requires.seen.0; few = c.requires.
 
 pub returns : goal.returns
 returns c =
-    let shows : all_shown (values_in c.args.seen.items) c.in_ok-ports.ports ≡ c.args.seen.items = subst (λ sight. all_shown (values_in sight) c.in_ok-ports.ports ≡ sight) c.as_slice.ensures.value c.in_ok-ports.ensures in
+    let shows : all_shown (values_in c.args.seen.items) c.in-Ok.found ≡ c.args.seen.items = subst (λ sight. all_shown (values_in sight) c.in-Ok.found ≡ sight) c.as_slice.ensures.value c.in-Ok.ensures in
     record {
       counted = refl;
       same_slots = refl;
       same_owned = refl;
       same_copied = refl;
-      shows = ap {A = Vec Seen} (λ v. all_shown (values_in v.items) c.in_ok-ports.ports) c.new-fifos.ensures ∙ shows;
+      shows = ap {A = Vec Seen} (λ v. all_shown (values_in v.items) c.in-Ok.found) c.new-fifos.ensures ∙ shows;
     }

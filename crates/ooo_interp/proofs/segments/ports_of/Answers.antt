@@ -27,7 +27,7 @@ loop-channel-preserved c =
     let ss : List Seen = c.args.seen.now in
     let x : Seen = c.channel-item.result in
     let keeps : IsKeptBy (values_in ss) x = subst (IsKeptBy (values_in ss)) (sym c.channel-item.is) (kept ss c.loop-channel.channel-index x c.requires.ascending c.loop-channel-test.true) in
-    ap (all_shown (values_in ss)) c.in_ok-push.ensures.ok
+    ap (all_shown (values_in ss)) c.in-Ok.ensures.ok
     ∙ map-append (shown (values_in ss)) c.loop-channel.ports (c.port_of.result ∷ [])
     ∙ ap (λ xs. xs ++ shown (values_in ss) c.port_of.result ∷ []) c.loop-channel.invariant
     ∙ ap (λ y. take c.loop-channel.channel-index ss ++ y ∷ []) (c.port_of.ensures.shown (values_in ss) keeps ∙ c.channel-item.is)
