@@ -6,7 +6,7 @@ ghost use Rattle.ooo_simple.specs.Loops.{next_item};
 ghost use Rattle.ooo_simple.specs.Spelled.{event_of};
 
 use crate::keeping::followed;
-use crate::lists::{begun, with};
+use crate::lists::{added, begun, with};
 use ooo_grammar::{Limits, Read, one, read_member_word, read_word, starts};
 use ooo_syntax::{BinaryOp, Event, Expr, Symbol, Terminal, Word};
 use ooo_value::Name;
@@ -55,7 +55,7 @@ fn read_next_event<'a>(
 {
     let (_, rest) = keeping!(list; one(tokens, Terminal::Or, limits));
     let (more, rest) = keeping!(list; read_event(alloc, rest, limits));
-    Ok((with(list, more)?, rest))
+    added(list, more, rest)
 }
 
 // Events and `|` between them.
@@ -115,8 +115,11 @@ fn called_event(alloc: Global, name: &Word, member: &Word) -> Result<Event, Allo
     ensures { IfOk result (λ e. e ≡ record { name = name.now; call = Some member.now }) }
 {
     let name = copy_of(alloc, name)?;
-    let call = Some(copy_of(alloc, member)?);
-    Ok(Event { name, call })
+    let member = keeping!(name; copy_of(alloc, member));
+    Ok(Event {
+        name,
+        call: Some(member),
+    })
 }
 
 // The event that an expression spells, if it has the form of one.
@@ -153,10 +156,12 @@ fn called_alone(
 fn join(list: Option<Items<Event>>, last: Option<Event>) -> Result<Option<Items<Event>>, AllocError>
     ensures { IfOk result (λ o. o ≡ joined list last) }
 {
-    let Some(mut list) = list else {
+    let Some(list) = list else {
+        drop(last);
         return Ok(None);
     };
     let Some(last) = last else {
+        drop(list);
         return Ok(None);
     };
     Ok(Some(with(list, last)?))

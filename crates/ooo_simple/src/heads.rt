@@ -1,11 +1,10 @@
-ghost use Rattle.std.specs.Prelude.{◌≡◌, IfOk};
 ghost use Rattle.ooo_grammar.specs.Codes.{deeper};
 ghost use Rattle.ooo_grammar.specs.Combinators.{optional};
 ghost use Rattle.ooo_grammar.specs.Statements.{condition, for_first, for_start, for_step, for_test, parens, simple};
 ghost use Rattle.ooo_grammar.specs.Gives.{Gives, reads_at};
 ghost use Rattle.ooo_simple.specs.Parts.{closed_step, ended_start, ended_value, opened_start};
 
-use crate::keeping::followed;
+use crate::keeping::{followed, on_heap};
 use crate::locals::read_local;
 use crate::signs::{begins_with_for_start, begins_with_simple};
 use crate::simple::{read_boxed_simple, read_simple};
@@ -13,7 +12,7 @@ use ooo_exprs::{begins_with_expression, read_boxed_inner_value, read_boxed_value
 use ooo_grammar::{Limits, Read, begins_with_type, one};
 use ooo_syntax::{Expr, ForStart, Simple, Symbol, Terminal};
 use sqlite_items::Boxed;
-use std::alloc::{AllocError, Global};
+use std::alloc::Global;
 
 /// Reads an expression in parentheses.
 #[tactic(auto, using(ooo_grammar::specs::Steps::steps), unfolding(ooo_grammar::specs::Statements::parens))]
@@ -57,12 +56,6 @@ pub fn read_ended_value<'a>(
     followed(Some(found), Terminal::Semicolon, rest, limits)
 }
 
-fn boxed_start(alloc: Global, found: ForStart) -> Result<Boxed<ForStart>, AllocError>
-    ensures { IfOk result (λ boxed. boxed ≡ found) }
-{
-    Boxed::new(alloc, found)
-}
-
 // What a `for` begins with.
 #[tactic(auto, using(ooo_grammar::specs::Steps::steps), unfolding(ooo_grammar::specs::Statements::for_start))]
 fn read_for_start<'a>(alloc: Global, tokens: &'a [Symbol<'a>], limits: Limits) -> Read<'a, ForStart>
@@ -86,7 +79,7 @@ fn read_boxed_for_start<'a>(
     ensures { Gives (reads_at limits for_start tokens.now) result }
 {
     let (found, rest) = got!(read_for_start(alloc, tokens, limits));
-    Ok((boxed_start(alloc, found)?, rest))
+    on_heap(alloc, found, rest)
 }
 
 // What a `for` begins with or nothing, and `;`.
@@ -99,8 +92,7 @@ fn read_ended_start<'a>(
     ensures { Gives (reads_at limits ended_start tokens.now) result }
 {
     if !begins_with_for_start(tokens) {
-        let (_, rest) = got!(one(tokens, Terminal::Semicolon, limits));
-        return Ok((None, rest));
+        return followed(None, Terminal::Semicolon, tokens, limits);
     }
     let (found, rest) = got!(read_boxed_for_start(alloc, tokens, limits));
     followed(Some(found), Terminal::Semicolon, rest, limits)

@@ -1,8 +1,11 @@
 ghost use Rattle.ooo_grammar.specs.Combinators.{quoted, to};
+ghost use Rattle.ooo_grammar.specs.Forms.{nothing_r};
 ghost use Rattle.ooo_grammar.specs.Gives.{Gives, reads_at};
 
 use ooo_grammar::{Limits, Read, one};
 use ooo_syntax::{Symbol, Terminal};
+use sqlite_items::Boxed;
+use std::alloc::Global;
 
 /// Reads a token after what was found already, and hands that back.
 #[tactic(auto, using(ooo_grammar::specs::Steps::steps))]
@@ -16,4 +19,15 @@ pub fn followed<'a, T: Drop>(
 {
     let (_, rest) = keeping!(found; one(tokens, terminal, limits));
     Ok((found, rest))
+}
+
+// What was found onto the heap, before the tokens that are left.
+pub(crate) fn on_heap<'a, T: Drop>(
+    alloc: Global,
+    found: T,
+    rest: &'a [Symbol<'a>],
+) -> Read<'a, Boxed<T>>
+    ensures { Gives (nothing_r found rest.now) result }
+{
+    Ok((Boxed::new(alloc, found)?, rest))
 }

@@ -1,5 +1,8 @@
 ghost use Rattle.std.specs.Prelude.{◌≡◌, ◌∷◌, ◌++◌, [], IfOk};
+ghost use Rattle.ooo_grammar.specs.Forms.{nothing_r};
+ghost use Rattle.ooo_grammar.specs.Gives.{Gives};
 
+use ooo_grammar::Read;
 use ooo_syntax::Symbol;
 use sqlite_items::Items;
 use std::alloc::{AllocError, Global};
@@ -17,6 +20,17 @@ pub fn with<T: Drop>(mut list: Items<T>, more: T) -> Result<Items<T>, AllocError
 {
     keeping!(list; list.push(more));
     Ok(list)
+}
+
+// A list with one more item, before the tokens that are left.
+pub(crate) fn added<'a, T: Drop>(
+    list: Items<T>,
+    more: T,
+    rest: &'a [Symbol<'a>],
+) -> Read<'a, Items<T>>
+    ensures { Gives (nothing_r (list ++ more ∷ []) rest.now) result }
+{
+    Ok((with(list, more)?, rest))
 }
 
 /// No items and all tokens: how a loop begins.

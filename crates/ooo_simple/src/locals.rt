@@ -1,15 +1,16 @@
-ghost use Rattle.std.specs.Prelude.{◌≡◌, IfOk, refl};
+ghost use Rattle.std.specs.Prelude.{refl};
 ghost use Rattle.ooo_grammar.specs.Combinators.{separated};
 ghost use Rattle.ooo_grammar.specs.Statements.{declarator, local};
 ghost use Rattle.ooo_grammar.specs.Gives.{Gives, reads_at};
 ghost use Rattle.ooo_simple.specs.Loops.{next_item};
 
-use crate::lists::{begun, with};
+use crate::keeping::on_heap;
+use crate::lists::{added, begun};
 use ooo_exprs::read_value;
 use ooo_grammar::{Limits, Read, one, read_type, read_word, starts};
 use ooo_syntax::{Declarator, Local, Symbol, Terminal};
 use sqlite_items::{Boxed, Items};
-use std::alloc::{AllocError, Global};
+use std::alloc::Global;
 
 // A local's name and its initial value or nothing.
 #[tactic(auto, using(ooo_grammar::specs::Steps::steps), unfolding(ooo_grammar::specs::Statements::declarator))]
@@ -47,7 +48,7 @@ fn read_next_declarator<'a>(
 {
     let (_, rest) = keeping!(list; one(tokens, Terminal::Comma, limits));
     let (more, rest) = keeping!(list; read_declarator(alloc, rest, limits));
-    Ok((with(list, more)?, rest))
+    added(list, more, rest)
 }
 
 // Names and commas between them.
@@ -86,12 +87,6 @@ pub(crate) fn read_local<'a>(
     Ok((Local { form, names }, rest))
 }
 
-fn boxed_local(alloc: Global, locals: Local) -> Result<Boxed<Local>, AllocError>
-    ensures { IfOk result (λ boxed. boxed ≡ locals) }
-{
-    Boxed::new(alloc, locals)
-}
-
 /// Reads locals onto the heap.
 #[tactic(auto, using(ooo_grammar::specs::Steps::steps))]
 pub fn read_boxed_local<'a>(
@@ -102,5 +97,5 @@ pub fn read_boxed_local<'a>(
     ensures { Gives (reads_at limits local tokens.now) result }
 {
     let (locals, rest) = got!(read_local(alloc, tokens, limits));
-    Ok((boxed_local(alloc, locals)?, rest))
+    on_heap(alloc, locals, rest)
 }

@@ -5,7 +5,7 @@ ghost use Rattle.ooo_grammar.specs.Gives.{Gives, reads_at};
 ghost use Rattle.ooo_simple.specs.Loops.{next_item};
 
 use crate::keeping::followed;
-use crate::lists::{begun, with};
+use crate::lists::{added, begun};
 use ooo_exprs::read_sum;
 use ooo_grammar::{Limits, Read, one, read_text, starts};
 use ooo_syntax::{PrintItem, Simple, Symbol, Terminal};
@@ -55,7 +55,7 @@ fn read_next_item<'a>(
 {
     let (_, rest) = keeping!(list; one(tokens, Terminal::ShiftLeft, limits));
     let (more, rest) = keeping!(list; read_print_item(alloc, rest, limits));
-    Ok((with(list, more)?, rest))
+    added(list, more, rest)
 }
 
 // Items and `<<` between them.

@@ -1,4 +1,4 @@
-ghost use Rattle.std.specs.Prelude.{◌≡◌, IfOk, refl};
+ghost use Rattle.std.specs.Prelude.{refl};
 ghost use Rattle.ooo_grammar.specs.Codes.{deeper};
 ghost use Rattle.ooo_grammar.specs.Combinators.{in_brackets, in_parens, optional, separated_inside, table};
 ghost use Rattle.ooo_grammar.specs.Expressions.{inner_value};
@@ -8,8 +8,8 @@ ghost use Rattle.ooo_grammar.specs.Gives.{Gives, reads_at};
 ghost use Rattle.ooo_simple.specs.Loops.{next_inside};
 ghost use Rattle.ooo_simple.specs.Parts.{cancel_call, member_call, next_trigger_call, notify_call, step_before, stop_call, wait_call};
 
-use crate::keeping::followed;
-use crate::lists::{begun, with};
+use crate::keeping::{followed, on_heap};
+use crate::lists::{added, begun};
 use crate::prints::read_print;
 use crate::signs::assign_of;
 use crate::times::read_timed_inside;
@@ -21,7 +21,7 @@ use ooo_grammar::{
 };
 use ooo_syntax::{AssignOp, Expr, Simple, StepOp, Symbol, Target, Terminal, TimeForm, Word};
 use sqlite_items::{Boxed, Items};
-use std::alloc::{AllocError, Global};
+use std::alloc::Global;
 
 // An assignment's sign.
 #[tactic(auto, using(ooo_grammar::specs::Steps::steps))]
@@ -51,12 +51,20 @@ fn read_after_target<'a>(
     ensures { Gives (reads_at limits (after_target to) tokens.now) result }
 {
     if starts(tokens, Terminal::PlusPlus) {
-        let (_, rest) = keeping!(to; one(tokens, Terminal::PlusPlus, limits));
-        return Ok((Simple::StepAfter(to, StepOp::Up), rest));
+        return followed(
+            Simple::StepAfter(to, StepOp::Up),
+            Terminal::PlusPlus,
+            tokens,
+            limits,
+        );
     }
     if starts(tokens, Terminal::MinusMinus) {
-        let (_, rest) = keeping!(to; one(tokens, Terminal::MinusMinus, limits));
-        return Ok((Simple::StepAfter(to, StepOp::Down), rest));
+        return followed(
+            Simple::StepAfter(to, StepOp::Down),
+            Terminal::MinusMinus,
+            tokens,
+            limits,
+        );
     }
     let (op, rest) = keeping!(to; read_assign_op(tokens, limits));
     let (value, rest) = keeping!(to; read_value(alloc, rest, limits));
@@ -170,7 +178,7 @@ fn read_next_argument<'a>(
 {
     let (_, rest) = keeping!(list; one_inside(tokens, Terminal::Comma, limits));
     let (more, rest) = keeping!(list; read_inner_value(alloc, rest, limits));
-    Ok((with(list, more)?, rest))
+    added(list, more, rest)
 }
 
 // Arguments and commas between them.
@@ -344,12 +352,6 @@ pub(crate) fn read_simple<'a>(
     read_print(alloc, tokens, limits)
 }
 
-fn boxed_simple(alloc: Global, found: Simple) -> Result<Boxed<Simple>, AllocError>
-    ensures { IfOk result (λ boxed. boxed ≡ found) }
-{
-    Boxed::new(alloc, found)
-}
-
 /// Reads a statement without its `;` that holds no other, onto the heap.
 #[tactic(auto, using(ooo_grammar::specs::Steps::steps))]
 pub fn read_boxed_simple<'a>(
@@ -360,5 +362,5 @@ pub fn read_boxed_simple<'a>(
     ensures { Gives (reads_at limits simple tokens.now) result }
 {
     let (found, rest) = got!(read_simple(alloc, tokens, limits));
-    Ok((boxed_simple(alloc, found)?, rest))
+    on_heap(alloc, found, rest)
 }

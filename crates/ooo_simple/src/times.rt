@@ -1,16 +1,15 @@
-ghost use Rattle.std.specs.Prelude.{◌≡◌, IfOk};
 ghost use Rattle.ooo_grammar.specs.Codes.{deeper};
 ghost use Rattle.ooo_grammar.specs.Times.{inner_amount, named_time, timed, unit_of_time};
 ghost use Rattle.ooo_grammar.specs.Gives.{Gives, reads_at};
 
-use crate::keeping::followed;
+use crate::keeping::{followed, on_heap};
 use crate::signs::{begins_with_named_time, scale_of};
 use ooo_exprs::{read_inner_value, read_value};
 use ooo_grammar::{Limits, Read, ReadError, next, one, one_inside, starts};
 use ooo_syntax::{Mark, Symbol, Terminal, TimeForm};
 use ooo_time::Scale;
 use sqlite_items::Boxed;
-use std::alloc::{AllocError, Global};
+use std::alloc::Global;
 
 /// Reads a unit of time.
 #[tactic(auto, using(ooo_grammar::specs::Steps::steps), unfolding(ooo_grammar::specs::Times::unit_of_time))]
@@ -110,12 +109,6 @@ pub fn read_timed_inside<'a>(
     read_timed(alloc, tokens, limits.inside())
 }
 
-fn boxed(alloc: Global, time: TimeForm) -> Result<Boxed<TimeForm>, AllocError>
-    ensures { IfOk result (λ boxed. boxed ≡ time) }
-{
-    Boxed::new(alloc, time)
-}
-
 /// Reads `SC_ZERO_TIME`, or `sc_time` and what it is made of, onto the heap.
 #[tactic(auto, using(ooo_grammar::specs::Steps::steps))]
 pub fn read_boxed_named_time<'a>(
@@ -126,7 +119,7 @@ pub fn read_boxed_named_time<'a>(
     ensures { Gives (reads_at limits named_time tokens.now) result }
 {
     let (time, rest) = got!(read_named_time(alloc, tokens, limits));
-    Ok((boxed(alloc, time)?, rest))
+    on_heap(alloc, time, rest)
 }
 
 /// Reads a time onto the heap.
@@ -139,7 +132,7 @@ pub fn read_boxed_timed<'a>(
     ensures { Gives (reads_at limits timed tokens.now) result }
 {
     let (time, rest) = got!(read_timed(alloc, tokens, limits));
-    Ok((boxed(alloc, time)?, rest))
+    on_heap(alloc, time, rest)
 }
 
 /// Reads a time onto the heap, one level deeper.
@@ -152,5 +145,5 @@ pub fn read_boxed_timed_inside<'a>(
     ensures { Gives (reads_at limits (deeper timed) tokens.now) result }
 {
     let (time, rest) = got!(read_timed_inside(alloc, tokens, limits));
-    Ok((boxed(alloc, time)?, rest))
+    on_heap(alloc, time, rest)
 }

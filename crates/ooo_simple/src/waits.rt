@@ -3,6 +3,7 @@ ghost use Rattle.ooo_grammar.specs.Times.{after_amount, after_awaited, after_tim
 ghost use Rattle.ooo_grammar.specs.Gives.{Gives, reads_at};
 
 use crate::events::{read_events_inside, spelled_events};
+use crate::keeping::followed;
 use crate::signs::begins_with_named_time;
 use crate::times::{read_named_time_inside, read_unit_inside};
 use ooo_exprs::read_inner_value;
@@ -24,11 +25,9 @@ fn read_after_time<'a>(
     if starts(tokens, Terminal::Comma) {
         let (_, rest) = keeping!(time; one_inside(tokens, Terminal::Comma, limits));
         let (list, rest) = keeping!(time; read_events_inside(alloc, rest, limits));
-        let (_, rest) = keeping!(time, list; one(rest, Terminal::Close, limits));
-        return Ok((Awaited::Until(time, list), rest));
+        return followed(Awaited::Until(time, list), Terminal::Close, rest, limits);
     }
-    let (_, rest) = keeping!(time; one(tokens, Terminal::Close, limits));
-    Ok((Awaited::Delay(time), rest))
+    followed(Awaited::Delay(time), Terminal::Close, tokens, limits)
 }
 
 // A comma and a unit, and what follows a time, after an amount.
@@ -59,8 +58,7 @@ fn read_after_events<'a>(
 {
     if starts(tokens, Terminal::Close) {
         drop(first);
-        let (_, rest) = keeping!(list; one(tokens, Terminal::Close, limits));
-        return Ok((Awaited::Events(list), rest));
+        return followed(Awaited::Events(list), Terminal::Close, tokens, limits);
     }
     drop(list);
     read_after_amount(alloc, first, tokens, limits)
@@ -112,8 +110,7 @@ pub(crate) fn read_awaiting<'a>(
 {
     let (_, rest) = got!(one(tokens, Terminal::Open, limits));
     if starts(rest, Terminal::Close) {
-        let (_, rest) = got!(one(rest, Terminal::Close, limits));
-        return Ok((Awaited::Sensitive, rest));
+        return followed(Awaited::Sensitive, Terminal::Close, rest, limits);
     }
     if begins_with_named_time(rest) {
         let (time, rest) = got!(read_named_time_inside(alloc, rest, limits));

@@ -3,14 +3,11 @@ use Rattle.ooo_grammar.specs.Steps.{stops_first, got_second}
 use Rattle.ooo_exprs.specs.Steps.{gives_second}
 use Rattle.ooo_simple.proofs.heads.read_ended_start.Goals as goal
 
-pub returns-in-Err : goal.returns-in-Err
-returns-in-Err c = rw (sym c.begins_with_for_start.ensures ∙ c.if-not-begins_with_for_start.true) (stops_first _ _ _ c.in-Err.ensures)
-
 pub returns-then-not-begins_with_for_start : goal.returns-then-not-begins_with_for_start
-returns-then-not-begins_with_for_start c = rw (sym c.begins_with_for_start.ensures ∙ c.if-not-begins_with_for_start.true) (got_second _ c.in-Ok.ensures refl)
+returns-then-not-begins_with_for_start c = rw (sym c.begins_with_for_start.ensures ∙ c.if-not-begins_with_for_start.true) c.followed.ensures
 
-pub returns-in-Err-read_boxed_for_start : goal.returns-in-Err-read_boxed_for_start
-returns-in-Err-read_boxed_for_start c = rw (sym c.begins_with_for_start.ensures ∙ c.if-not-begins_with_for_start.false) (stops_first _ _ _ (stops_first _ _ _ c.in-Err-read_boxed_for_start.ensures))
+pub returns-in-Err : goal.returns-in-Err
+returns-in-Err c = rw (sym c.begins_with_for_start.ensures ∙ c.if-not-begins_with_for_start.false) (stops_first _ _ _ (stops_first _ _ _ c.in-Err.ensures))
 
 pub returns : goal.returns
-returns c = rw (sym c.begins_with_for_start.ensures ∙ c.if-not-begins_with_for_start.false) (gives_second _ _ (got_second _ c.in-Ok-read_boxed_for_start.ensures refl) c.followed.ensures)
+returns c = rw (sym c.begins_with_for_start.ensures ∙ c.if-not-begins_with_for_start.false) (gives_second _ _ (got_second _ c.in-Ok.ensures refl) c.followed-2.ensures)

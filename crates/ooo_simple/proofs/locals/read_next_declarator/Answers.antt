@@ -1,7 +1,5 @@
-use Rattle.std.proofs.Common.{ap, sym, List}
-use Rattle.ooo_grammar.specs.Forms.{Got}
-use Rattle.ooo_grammar.specs.Steps.{stops_first, stops_second, got_second}
-use Rattle.ooo_syntax.specs.declared.stat.Declarator.{Declarator}
+use Rattle.ooo_grammar.specs.Steps.{stops_first, stops_second}
+use Rattle.ooo_exprs.specs.Steps.{gives_second}
 use Rattle.ooo_simple.proofs.locals.read_next_declarator.Goals as goal
 
 pub returns-in-Err : goal.returns-in-Err
@@ -11,4 +9,4 @@ pub returns-in-Err-read_declarator : goal.returns-in-Err-read_declarator
 returns-in-Err-read_declarator c = stops_second _ _ c.in-Ok.ensures (stops_first _ _ _ c.in-Err-read_declarator.ensures)
 
 pub returns : goal.returns
-returns c = got_second _ c.in-Ok.ensures (got_second _ c.in-Ok-read_declarator.ensures (ap (λ (xs : List Declarator). Got xs c.in-Ok-read_declarator.found.1.now) (sym c.in_ok-with.ensures)))
+returns c = gives_second _ _ c.in-Ok.ensures (gives_second _ _ c.in-Ok-read_declarator.ensures c.added.ensures)

@@ -1,5 +1,5 @@
-use Rattle.std.proofs.Common.{sym, refl, ◌∙◌}
-use Rattle.ooo_grammar.specs.Steps.{stops_first, stops_second, got_second}
+use Rattle.std.proofs.Common.{sym, ◌∙◌}
+use Rattle.ooo_grammar.specs.Steps.{stops_first, stops_second}
 use Rattle.ooo_grammar.specs.Times.{awaiting}
 use Rattle.ooo_exprs.specs.Steps.{gives_second}
 use Rattle.ooo_simple.proofs.waits.read_awaiting.Goals as goal
@@ -8,13 +8,9 @@ pub returns-in-Err : goal.returns-in-Err
 unfolding awaiting
 returns-in-Err c = stops_first _ _ _ c.in-Err.ensures
 
-pub returns-in-Err-one : goal.returns-in-Err-one
-unfolding awaiting
-returns-in-Err-one c = stops_second _ _ c.in-Ok.ensures (rw (sym c.starts.ensures ∙ c.if-starts.true) (stops_first _ _ _ c.in-Err-one.ensures))
-
 pub returns-then-starts : goal.returns-then-starts
 unfolding awaiting
-returns-then-starts c = got_second _ c.in-Ok.ensures (rw (sym c.starts.ensures ∙ c.if-starts.true) (got_second _ c.in-Ok-one.ensures refl))
+returns-then-starts c = gives_second _ _ c.in-Ok.ensures (rw (sym c.starts.ensures ∙ c.if-starts.true) c.followed.ensures)
 
 pub returns-in-Err-read_named_time_inside : goal.returns-in-Err-read_named_time_inside
 unfolding awaiting
