@@ -1,1 +1,2 @@
 pub mod Awaits
+pub mod Listed
