@@ -1,5 +1,5 @@
 -- What processes are chosen from.
-use Rattle.std.proofs.Common.{◌≡◌, ◌↔◌, ◌⊎◌, ℕ, suc, ◌<◌, List, [], ◌∷◌, length, Option, None, Some, refl, sym, ap, subst, ◌∙◌, arith}
+use Rattle.std.proofs.Common.{◌≡◌, ◌↔◌, ◌⊎◌, ℕ, suc, ◌<◌, List, [], ◌∷◌, length, Bool, true, false, Option, None, Some, refl, sym, ap, subst, ◌∙◌, arith}
 use Rattle.std.specs.Prelude.{slice_index_or}
 use Rattle.std.proofs.lemmas.Option.{same_Some}
 use Rattle.ooo_time.specs.declared.stamp.Stamp.{Stamp}
@@ -32,6 +32,10 @@ is_choice b c has laws choice states fronts held cut = record {
   held = rw (fronts, held) ((laws b.design b.limits b.tables has.stands.ready).counts c.fronts.fronts c.fronts.counts has.core.has_kept.counts);
   cut = subst (IsCutOf (rules b) (state b).board.log) (sym cut) has.core.has_cut;
 }
+
+-- a test doesn't come out both ways
+pub not_both : (b : Bool) → b ≡ true → b ≡ false → ⊥
+not_both b holds fails = let e : true ≡ false = sym holds ∙ fails in cc
 
 -- ---- who could run
 

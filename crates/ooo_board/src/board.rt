@@ -9,6 +9,7 @@ ghost use Rattle.ooo_dispatch.specs.Boards.{model};
 ghost use Rattle.ooo_dispatch.specs.Schedules.{CommitsPutBack, CommitsWalk, CutStays, NoneOvertakes, NothingAway, StayAllowed};
 ghost use Rattle.ooo_dispatch.specs.Steps.{IsLost, job_of};
 ghost use Rattle.ooo_dispatch.specs.declared.step.Step.TheVariants as step;
+ghost use Rattle.ooo_fronts.specs.declared.choice.State.TheVariants as does;
 ghost use Rattle.ooo_fronts.specs.Choices.{HasFrontBelow, IsChoiceOf, IsPick, PicksLeastOf};
 ghost use Rattle.ooo_fronts.specs.declared.front.Front.{Front as FrontSpec};
 ghost use Rattle.ooo_fronts.specs.Holds.{AreCounts};
@@ -335,7 +336,7 @@ impl Board {
             stamp: front.stamp,
             process: p,
         };
-        matches!(self.core.states[p as usize], State::Waiting)
+        is_waiting(self.core.states[p as usize])
             && self.core.cut.is_below_limit(front.stamp)
             && self.core.cut.is_below(self.core.fronts.least(), place)
     }
@@ -356,6 +357,13 @@ impl Board {
             cut: &self.core.cut,
         }
     }
+}
+
+// Whether a process waits, and its job isn't out.
+fn is_waiting(kept: State) -> bool
+    ensures { IsTrue result ↔ (kept ≡ does.Waiting) }
+{
+    matches!(kept, State::Waiting)
 }
 
 // Whether each channel and event has a number of 32 bits. Each process has: there are no more of them than segments.

@@ -1,5 +1,7 @@
 use Rattle.std.proofs.Common.{◌<◌, List, ap, arith, length, refl, subst, sym}
 use Rattle.ooo_code.specs.declared.design.Design.{Design}
+use Rattle.ooo_code.specs.Sound.{IsSound}
+use Rattle.ooo_tables.specs.Tables.{AreTables}
 use Rattle.ooo_dispatch.specs.Inside.{AreInside}
 use Rattle.ooo_dispatch.specs.Least.{rules_of}
 use Rattle.ooo_dispatch.specs.Steps.{nothing_done}
@@ -25,6 +27,18 @@ make-requires-clause-waits c g e a is waited =
     let inside : AreInside (rules_of design c.args.limits c.args.tables) =
     c.accesses_are_inside.ensures (rules_of design c.args.limits c.args.tables) (c.tables_are_rules.ensures design c.args.limits c.args.tables c.requires.tables) c.requires.sound in
     subst (λ (d : Design). e < length d.events) (sym c.deref-2.ensures) ((inside g a is).waited e waited)
+
+pub make-core-requires-clause-tables : goal.make-core-requires-clause-tables
+make-core-requires-clause-tables c = subst (λ (d : Design). AreTables d c.args.tables) (sym c.deref-3.ensures) c.requires.tables
+
+pub make-core-requires-clause-links : goal.make-core-requires-clause-links
+make-core-requires-clause-links c = subst (λ (d : Design). AreLinks d c.args.tables c.in-Ok.made) (sym c.deref-3.ensures) (subst (λ (d : Design). AreLinks d c.args.tables c.in-Ok.made) c.deref-2.ensures c.in-Ok.ensures)
+
+pub make-requires-clause-sound : goal.make-requires-clause-sound
+make-requires-clause-sound c = subst IsSound (sym c.deref-2.ensures) c.requires.sound
+
+pub make-requires-clause-tables : goal.make-requires-clause-tables
+make-requires-clause-tables c = subst (λ (d : Design). AreTables d c.args.tables) (sym c.deref-2.ensures) c.requires.tables
 
 pub invariant_of-result : goal.invariant_of-result
 invariant_of-result c =
