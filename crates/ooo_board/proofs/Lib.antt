@@ -1,5 +1,6 @@
 pub mod Parts
 pub mod Looking
+pub mod Made
 pub mod Steps
 pub mod Keeping
 pub mod States

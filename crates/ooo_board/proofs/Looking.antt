@@ -1,11 +1,11 @@
 -- What a board looks up: how the lists come about.
-use Rattle.std.proofs.Common.{◌≡◌, ◌≢◌, ℕ, ◌+◌, ◌<◌, ◌≤◌, ◌==◌, List, [], ◌∷◌, ◌++◌, Bool, true, false, ◌||◌, Option, Some, None, length, drop, get_or, map, set, refl, sym, ap, subst, ◌∙◌, arith, ⊎_elim, eq-eqb, eqb-true}
+use Rattle.std.proofs.Common.{◌≡◌, ◌≢◌, ℕ, ◌+◌, ◌<◌, ◌≤◌, ◌==◌, List, [], ◌∷◌, ◌++◌, Bool, true, false, ◌||◌, Option, Some, None, length, drop, get_or, map, set, refl, sym, ap, subst, ◌∙◌, arith, ⊎_elim, add-one, append-nil, append_assoc, drop-cons, eq-eqb, eqb-true}
 use Rattle.std.specs.Prelude.{All, Contains, IsSomeAnd, MatchResult, Result, Ok, Err, is_ok, slice_get}
 use Rattle.std.specs.List.{position_or_len}
 use Rattle.std.specs.List.Sorted.{IsBinarySearchResult, IsSearchInRange}
 use Rattle.std.specs.Ordering.{nat_cmp}
 use Rattle.std.proofs.lemmas.Bool.{cases_eq, cases_lt, ne_eqb}
-use Rattle.std.proofs.lemmas.List.{get_or_default, get_or-set_same, get_or-set_other, get_or-map, length-map, length-set}
+use Rattle.std.proofs.lemmas.List.{drop_all, get_or_default, get_or-set_same, get_or-set_other, get_or-map, length-map, length-set}
 use Rattle.std.proofs.lemmas.List.Elements.{All-append, All-cons, All-contains, All-nil, Contains-append_cases, Contains-append_left, Contains-append_right}
 use Rattle.std.proofs.lemmas.List.Folds.{list_any_at, list_any_none}
 use Rattle.std.proofs.lemmas.List.Sums.{position_or_len_is}
@@ -24,7 +24,7 @@ use Rattle.ooo_access.specs.declared.access.Access.{Access}
 use Rattle.ooo_dispatch.specs.Rules.{has}
 use Rattle.ooo_board.specs.declared.links.Watched.{Watched}
 use Rattle.ooo_board.specs.declared.links.Links.{Links}
-use Rattle.ooo_board.specs.Links.{Adds, AreChannelEvents, AreWaiters, HasSegment, IsUpTo, begins_at, watched_from}
+use Rattle.ooo_board.specs.Links.{Adds, AreChannelEvents, AreWaiters, HasSegment, IsUpTo, begins_at, watched_from, watched_if, watched_of}
 
 -- ---- numbers in ascending lists
 
@@ -70,6 +70,38 @@ pub record IsWatching (a : Access) (channels : List BoundChannel) (c read taken 
   pub reads : IsUpTo a.signals_read read c
   pub takes : IsUpTo a.takes taken c
   pub puts : IsUpTo a.puts put c
+
+none_passed : (numbers : List ℕ) → IsUpTo numbers 0 0
+none_passed numbers = record { within = omega arith; before = λ k below. absurd (omega (arith, below)); after = λ k from lt. omega arith }
+
+-- none of them, one more, and all
+pub watching_begins : (a : Access) (channels : List BoundChannel) (all : List Watched) → all ≡ [] → IsWatching a channels 0 0 0 0 all
+watching_begins a channels all is = record {
+  same = ap (λ l. l ++ watched_from a 0 channels) is;
+  reads = none_passed a.signals_read;
+  takes = none_passed a.takes;
+  puts = none_passed a.puts;
+}
+
+pub watching_on : (a : Access) (channels xs : List BoundChannel) (c : ℕ) (d : BoundChannel) (r t p r' t' p' : ℕ) (reads takes puts : Bool) (all all' : List Watched) → xs ≡ channels → c < length xs → reads ≡ has a.signals_read c → takes ≡ has a.takes c → puts ≡ has a.puts c →
+    all' ≡ all ++ watched_if reads takes puts c (get_or xs c d).kind → IsUpTo a.signals_read r' (c + 1) → IsUpTo a.takes t' (c + 1) → IsUpTo a.puts p' (c + 1) → IsWatching a channels c r t p all → IsWatching a channels (c + 1) r' t' p' all'
+watching_on a channels xs c d r t p r' t' p' reads takes puts all all' are lt reads_is takes_is puts_is pushed up_r up_t up_p h =
+    let x : BoundChannel = get_or xs c d in
+    let rest = watched_from a (c + 1) (drop (c + 1) xs) in
+    let so_far : all ++ watched_from a c (drop c xs) ≡ watched_from a 0 xs = subst (λ ys. all ++ watched_from a c (drop c ys) ≡ watched_from a 0 ys) (sym are) h.same in
+    let here : watched_of a c x.kind ++ rest ≡ watched_from a c (drop c xs) =
+    ap (λ n. watched_of a c x.kind ++ watched_from a n (drop n xs)) (add-one c) ∙ sym (ap (watched_from a c) (drop-cons xs c d lt)) in
+    let same : all' ++ rest ≡ watched_from a 0 xs =
+    ap (λ l. l ++ rest) pushed ∙ (λ i. (all ++ watched_if (reads_is i) (takes_is i) (puts_is i) c x.kind) ++ rest) ∙ append_assoc all (watched_of a c x.kind) rest ∙ ap (λ l. all ++ l) here ∙ so_far in
+    record {
+      same = subst (λ ys. all' ++ watched_from a (c + 1) (drop (c + 1) ys) ≡ watched_from a 0 ys) are same;
+      reads = up_r;
+      takes = up_t;
+      puts = up_p;
+    }
+
+pub watching_ends : (a : Access) (channels : List BoundChannel) (c r t p : ℕ) (all : List Watched) → length channels ≤ c → IsWatching a channels c r t p all → all ≡ watched_from a 0 channels
+watching_ends a channels c r t p all past h = sym (append-nil all) ∙ ap (λ l. all ++ watched_from a c l) (sym (drop_all c channels past)) ∙ h.same
 
 -- ---- who may wait on an event
 

@@ -24,8 +24,8 @@ pub(crate) fn copies(
 {
     let mut copied = Vec::with_capacity(alloc, numbers.len())?;
     for x in numbers {
-        let cells = Items::from_slice(alloc, variables[*x as usize].as_slice())?;
-        copied.push((*x, cells))?;
+        let cells = Items::from_slice(alloc, variables[*x as usize].as_slice());
+        copied.push_reserved((*x, keeping!(copied; cells)));
     }
     Ok(copied)
 }
@@ -44,9 +44,9 @@ pub(crate) fn bare(
     ensures { IfOk result (λ owned. owned.items ≡ bare numbers.now) }
 {
     let mut owned = room;
-    owned.reserve_exact(numbers.len())?;
+    keeping!(owned; owned.reserve_exact(numbers.len()));
     for x in numbers {
-        owned.push((*x, Items::new(alloc)))?;
+        owned.push_reserved((*x, Items::new(alloc)));
     }
     Ok(owned)
 }

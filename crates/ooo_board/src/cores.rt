@@ -83,8 +83,8 @@ impl Core {
         ensures refused { OnErr result (self.new ≡ self.old) }
     {
         crate::law::parts_are_at_hand();
-        let shared = Arc::clone(design)?;
         let mut parts = self.parts(alloc, design, tables, links, front, room)?;
+        let shared = keeping!(parts; Arc::clone(design));
         move_out(&mut self.variables, &mut parts.owned);
         self.states[p as usize] = State::Running;
         let process = &mut self.processes[p as usize];
@@ -128,9 +128,10 @@ impl Core {
         let written = tables.access.as_slice()[g].written.as_slice();
         let owned = bare(alloc, room, written)?;
         let read = links.only_read[g].as_slice();
-        let copied = copies(alloc, self.variables.as_slice(), read)?;
+        let copied = keeping!(owned; copies(alloc, self.variables.as_slice(), read));
         let watched = links.watched[g].as_slice();
-        let seen = sights(alloc, design, &self.bank, watched, front.stamp)?;
+        let seen = sights(alloc, design, &self.bank, watched, front.stamp);
+        let seen = keeping!(owned, copied; seen);
         Ok(Parts {
             owned,
             copied,

@@ -1,6 +1,6 @@
 //! The run that a board shows which is over.
 
-ghost use Rattle.std.specs.Prelude.{◌≡◌, ◌<◌, ◌≤◌, ◌^◌, List, length, filter, IfOk, IfSome};
+ghost use Rattle.std.specs.Prelude.{◌≡◌, ◌<◌, ◌≤◌, ◌^◌, ◌++◌, List, [], ◌∷◌, length, filter, IfOk, IfSome};
 ghost use Rattle.std.specs.List.Sorted.{IsPermutation, IsSortedBy};
 ghost use Rattle.ooo_time.specs.Scales.{greatest_delta};
 ghost use Rattle.ooo_code.specs.declared.limits.Limits.{Limits as LimitsSpec};
@@ -44,7 +44,8 @@ impl Core {
         let mut pieces = shown_pieces(alloc, self.pieces.as_slice(), &self.cut, next)?;
         put_in_order(&mut pieces);
         let before = counted_before(&self.cut, next);
-        let channels = histories(alloc, &self.bank, design.channels.len() as u32, before)?;
+        let count = design.channels.len() as u32;
+        let channels = keeping!(pieces; histories(alloc, &self.bank, count, before));
         let latest = latest_shown(self.places.as_slice(), &self.cut, next);
         Ok(Run {
             pieces: Items::from_vec(pieces),
@@ -108,12 +109,21 @@ fn shown_pieces(
     let mut shown = Vec::new(alloc);
     for piece in pieces {
         if is_shown(cut, next, piece.place) {
-            let bytes = Items::from_slice(alloc, piece.bytes.as_slice())?;
-            let place = piece.place;
-            shown.push(Piece { place, bytes })?;
+            shown = with_copy(alloc, shown, piece)?;
         }
     }
     Ok(shown)
+}
+
+// The pieces and a copy of this one.
+fn with_copy(alloc: Global, mut pieces: Vec<Piece>, piece: &Piece) -> Result<Vec<Piece>, AllocError>
+    ensures { IfOk result (λ all. all.items ≡ pieces.items ++ piece.now ∷ []) }
+{
+    keeping!(pieces; pieces.reserve(1));
+    let bytes = keeping!(pieces; Items::from_slice(alloc, piece.bytes.as_slice()));
+    let place = piece.place;
+    pieces.push_reserved(Piece { place, bytes });
+    Ok(pieces)
 }
 
 // Puts pieces in order of place.
@@ -244,9 +254,10 @@ fn histories(
     ensures { IfOk result (λ made. (ops : Operations) → IsAskedFor bank.now ops →
         AreHistoriesBy ops before channels made.items) }
 {
-    let mut made = Vec::new(alloc);
+    let mut made = Vec::with_capacity(alloc, channels as usize)?;
     for c in 0..channels {
-        made.push(Items::from_vec(bank.history(alloc, c, before)?))?;
+        let history = keeping!(made; bank.history(alloc, c, before));
+        made.push_reserved(Items::from_vec(history));
     }
     Ok(made)
 }

@@ -66,13 +66,21 @@ impl Links {
         ooo_fronts::law::tables_are_aligned();
         let access = tables.access.as_slice();
         let segments = tables.graph.segments.as_slice();
+        let starts = all_starts(alloc, design, segments)?;
+        let reaches = keeping!(starts; Reaches::make(alloc, tables));
+        let watched = keeping!(starts, reaches; all_watched(alloc, design, access));
+        let only_read = keeping!(starts, reaches, watched; all_only_read(alloc, access));
+        let waiters = all_waiters(alloc, design, segments, access);
+        let waiters = keeping!(starts, reaches, watched, only_read; waiters);
+        let channel_events = all_channel_events(alloc, design);
+        let channel_events = keeping!(starts, reaches, watched, only_read, waiters; channel_events);
         Ok(Links {
-            watched: all_watched(alloc, design, access)?,
-            only_read: all_only_read(alloc, access)?,
-            waiters: all_waiters(alloc, design, segments, access)?,
-            channel_events: all_channel_events(alloc, design)?,
-            starts: all_starts(alloc, design, segments)?,
-            reaches: Reaches::make(alloc, tables)?,
+            watched,
+            only_read,
+            waiters,
+            channel_events,
+            starts,
+            reaches,
         })
     }
 
@@ -115,7 +123,7 @@ fn all_watched(
 {
     let mut lists = Vec::with_capacity(alloc, access.len())?;
     for one in access {
-        lists.push(watched_by(alloc, design, one)?)?;
+        lists.push_reserved(keeping!(lists; watched_by(alloc, design, one)));
     }
     Ok(lists)
 }
@@ -135,16 +143,12 @@ fn watched_by(alloc: Global, design: &Design, access: &Access) -> Result<Items<W
         let reads = comes_next(access.signals_read.as_slice(), &mut signals, c);
         let takes = comes_next(access.takes.as_slice(), &mut taken, c);
         let puts = comes_next(access.puts.as_slice(), &mut put, c);
-        add_watched(
-            &mut all,
-            channels[c as usize].kind,
-            reads,
-            Watched {
-                channel: c,
-                takes,
-                puts,
-            },
-        )?;
+        let ends = Watched {
+            channel: c,
+            takes,
+            puts,
+        };
+        keeping!(all; add_watched(&mut all, channels[c as usize].kind, reads, ends));
     }
     Ok(all)
 }
@@ -209,7 +213,7 @@ fn all_only_read(alloc: Global, access: &[Access]) -> Result<Vec<Items<u32>>, Al
 {
     let mut lists = Vec::with_capacity(alloc, access.len())?;
     for one in access {
-        lists.push(not_written(alloc, one)?)?;
+        lists.push_reserved(keeping!(lists; not_written(alloc, one)));
     }
     Ok(lists)
 }
@@ -222,7 +226,7 @@ fn not_written(alloc: Global, access: &Access) -> Result<Items<u32>, AllocError>
     let mut numbers = Items::new(alloc);
     for x in access.read.as_slice() {
         if !contains(access.written.as_slice(), *x) {
-            numbers.push(*x)?;
+            keeping!(numbers; numbers.push(*x));
         }
     }
     Ok(numbers)
@@ -251,7 +255,7 @@ fn all_waiters(
 {
     let mut waiters = empty_lists(alloc, design.events.len())?;
     for (g, segment) in segments.iter().enumerate() {
-        add_waiter(&mut waiters, access[g].waited.as_slice(), segment.process)?;
+        keeping!(waiters; add_waiter(&mut waiters, access[g].waited.as_slice(), segment.process));
     }
     Ok(waiters)
 }
@@ -277,7 +281,7 @@ fn all_channel_events(alloc: Global, design: &Design) -> Result<Vec<Items<u32>>,
     let mut lists = empty_lists(alloc, design.channels.len())?;
     let events = design.events.as_slice();
     for e in 0..events.len() as u32 {
-        add_event(design, &mut lists, e, events[e as usize])?;
+        keeping!(lists; add_event(design, &mut lists, e, events[e as usize]));
     }
     Ok(lists)
 }
@@ -321,7 +325,7 @@ fn empty_lists(alloc: Global, count: usize) -> Result<Vec<Items<u32>>, AllocErro
 {
     let mut lists = Vec::with_capacity(alloc, count)?;
     for _list in 0..count {
-        lists.push(Items::new(alloc))?;
+        lists.push_reserved(Items::new(alloc));
     }
     Ok(lists)
 }

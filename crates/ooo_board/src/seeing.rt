@@ -40,7 +40,7 @@ pub(crate) fn sights(
 {
     let mut seen = Vec::with_capacity(alloc, watched.len())?;
     for channel in watched {
-        seen.push(sight(alloc, design, bank, *channel, at)?)?;
+        seen.push_reserved(keeping!(seen; sight(alloc, design, bank, *channel, at)));
     }
     Ok(seen)
 }
@@ -95,9 +95,10 @@ fn values_of(alloc: Global, bank: &Bank, c: u32, at: Stamp) -> Result<Items<Valu
     ensures { IfOk result (λ values. (ops : Operations) → IsBankAfter bank.now ops →
         HasChannel ops c kind.Fifo → values ≡ readable (channel_in at ops c)) }
 {
-    let mut values = Vec::new(alloc);
-    for n in 0..bank.available(c, at) {
-        values.push(bank.value(c, n))?;
+    let count = bank.available(c, at);
+    let mut values = Vec::with_capacity(alloc, count as usize)?;
+    for n in 0..count {
+        values.push_reserved(bank.value(c, n));
     }
     Ok(Items::from_vec(values))
 }

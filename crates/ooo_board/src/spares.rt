@@ -20,8 +20,8 @@ impl Spares {
     /// Only where memory runs out.
     pub(crate) fn make(alloc: Global, processes: usize) -> Result<Spares, AllocError> {
         let mut of_processes = Vec::with_capacity(alloc, processes)?;
-        for _ in 0..processes {
-            of_processes.push(Vec::new(alloc))?;
+        for _spare in 0..processes {
+            of_processes.push_reserved(Vec::new(alloc));
         }
         Ok(Spares { of_processes })
     }

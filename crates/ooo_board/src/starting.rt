@@ -1,6 +1,6 @@
 //! What a board keeps as it starts.
 
-ghost use Rattle.std.specs.Prelude.{◌≡◌, map, IfOk};
+ghost use Rattle.std.specs.Prelude.{◌≡◌, map, replicate, IfOk};
 ghost use Rattle.ooo_code.specs.declared.limits.Limits.{Limits as LimitsSpec};
 ghost use Rattle.ooo_tables.specs.Tables.{AreTables};
 ghost use Rattle.ooo_dispatch.specs.Least.{rules_of};
@@ -46,14 +46,20 @@ impl Core {
     {
         ooo_fronts::law::tables_are_aligned();
         let processes = first_processes(alloc, design, tables, links)?;
-        let fronts = first_fronts(alloc, processes.as_slice())?;
+        let fronts = keeping!(processes; first_fronts(alloc, processes.as_slice()));
+        let fronts = keeping!(processes; Fronts::make(alloc, tables, &links.reaches, fronts));
+        let states = vec![in alloc; State::Waiting; processes.len()];
+        let states = keeping!(processes, fronts; states);
+        let variables = first_variables(alloc, design.variables.as_slice());
+        let variables = keeping!(processes, fronts, states; variables);
+        let bank = keeping!(processes, fronts, states, variables; Bank::make(alloc, design));
         Ok(Core {
-            bank: Bank::make(alloc, design)?,
+            bank,
             below: Stamp::default(),
-            variables: first_variables(alloc, design.variables.as_slice())?,
-            states: vec![in alloc; State::Waiting; processes.len()]?,
+            variables,
+            states,
             processes,
-            fronts: Fronts::make(alloc, tables, &links.reaches, fronts)?,
+            fronts,
             cut: Cut::new(limits),
             pieces: Vec::new(alloc),
             places: Vec::new(alloc),
@@ -78,7 +84,8 @@ fn first_processes(
     let mut made = Vec::with_capacity(alloc, processes.len())?;
     for p in 0..processes.len() as u32 {
         let segment = links.segment(segments, p, SegmentEntry::Start);
-        made.push(first_process(alloc, segment, &processes[p as usize])?)?;
+        let process = first_process(alloc, segment, &processes[p as usize]);
+        made.push_reserved(keeping!(made; process));
     }
     Ok(made)
 }
@@ -87,10 +94,12 @@ fn first_processes(
 fn first_process(alloc: Global, segment: u32, process: &Proc) -> Result<Process, AllocError>
     ensures { IfOk result (IsFirst segment process.now) }
 {
-    let slots = set_apart(zeros(alloc, process.slots.as_slice())?)?;
+    let waiting = first_wait(alloc, segment, process)?;
+    let slots = keeping!(waiting; zeros(alloc, process.slots.as_slice()));
+    let slots = keeping!(waiting; set_apart(slots));
     Ok(Process {
         slots: Items::from_vec(slots),
-        waiting: Some(first_wait(alloc, segment, process)?),
+        waiting: Some(waiting),
         activations: 0,
     })
 }
@@ -162,8 +171,15 @@ fn first_variables(alloc: Global, bound: &[BoundVariable]) -> Result<Vec<Cells>,
 {
     let mut made = Vec::with_capacity(alloc, bound.len())?;
     for x in bound {
-        let cells = set_apart(vec![in alloc; x.start; x.length as usize]?)?;
-        made.push(Items::from_vec(cells))?;
+        made.push_reserved(keeping!(made; cells_of(alloc, x)));
     }
     Ok(made)
+}
+
+// The cells of a variable with its start value, with room behind them.
+fn cells_of(alloc: Global, x: &BoundVariable) -> Result<Cells, AllocError>
+    ensures { IfOk result (λ cells. cells ≡ replicate x.now.length x.now.start) }
+{
+    let cells = set_apart(vec![in alloc; x.start; x.length as usize]?)?;
+    Ok(Items::from_vec(cells))
 }

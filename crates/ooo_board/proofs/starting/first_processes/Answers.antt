@@ -39,24 +39,30 @@ segment-segment-requires c =
     }
 
 pub loop-p-preserved : goal.loop-p-preserved
-loop-p-preserved c limits =
-    let design = c.args.design.now in
-    let t = c.args.tables.now in
-    let r = rules_of design limits t in
-    let p = c.loop-p.p in
-    let q : Proc = c.index-processes-p.result in
-    let x = c.in_ok-first_process.field-0 in
-    let is : slice_get design.processes p ≡ Some q =
-    subst (λ xs. slice_get xs p ≡ Some q) c.as_slice-processes.ensures
-    (slice_get-get_or c.as_slice-processes.result.now p q c.loop-p-test.true ∙ ap Some (sym c.index-processes-p.is)) in
-    let first : IsFirst (segment_at r p Start) q x =
-    subst (λ g. IsFirst g q x) (c.segment-segment.ensures.at design limits t (sym c.as_slice-segments.ensures)) c.in_ok-first_process.ensures in
-    let pushed : c.push.new.self.items ≡ c.loop-p.made.items ++ x ∷ [] = c.in_ok-push.ensures.items in
-    subst (AreBegun r (p + 1)) (sym {A = List Process} pushed) (one_begun r p c.loop-p.made.items q x is first (c.loop-p.invariant limits))
+loop-p-preserved c = record {
+  begun = λ limits.
+      let design = c.args.design.now in
+      let t = c.args.tables.now in
+      let r = rules_of design limits t in
+      let p = c.loop-p.p in
+      let q : Proc = c.index-processes-p.result in
+      let x = c.in-Ok.made in
+      let is : slice_get design.processes p ≡ Some q =
+      subst (λ xs. slice_get xs p ≡ Some q) c.as_slice-processes.ensures
+      (slice_get-get_or c.as_slice-processes.result.now p q c.loop-p-test.true ∙ ap Some (sym c.index-processes-p.is)) in
+      let first : IsFirst (segment_at r p Start) q x =
+      subst (λ g. IsFirst g q x) (c.segment-segment.ensures.at design limits t (sym c.as_slice-segments.ensures)) c.in-Ok.ensures in
+      let pushed : c.push_reserved.new.self.items ≡ c.loop-p.made.items ++ x ∷ [] = c.push_reserved.ensures.items in
+      subst (AreBegun r (p + 1)) (sym {A = List Process} pushed) (one_begun r p c.loop-p.made.items q x is first (c.loop-p.invariant.begun limits));
+  room = omega (arith, c.loop-p.invariant.room, c.loop-p-test.true, c.push_reserved.ensures.len, c.push_reserved.ensures.capacity);
+}
+
+pub push_reserved-requires : goal.push_reserved-requires
+push_reserved-requires c = omega (arith, c.loop-p.invariant.room, c.loop-p-test.true)
 
 pub returns : goal.returns
 returns c limits =
-    let h = c.loop-p.invariant limits in
+    let h = c.loop-p.invariant.begun limits in
     let same = ap length c.as_slice-processes.ensures in
     let counted = h.counted in
     record { counted = omega arith; each = h.each }

@@ -25,8 +25,8 @@ bounds-as_slice-front c =
     let hand = c.parts_are_at_hand.ensures c.args.design.now.value c.args.limits.now c.args.tables.now steps c.args.p c.args.front core.stands may in
     subst (λ n. c.args.front.segment < n) (sym (ap length c.as_slice.ensures)) hand.reach.segment
 
-pub bounds-as_slice-front-in_ok-parts : goal.bounds-as_slice-front-in_ok-parts
-bounds-as_slice-front-in_ok-parts c =
+pub bounds-as_slice-front-in-Ok : goal.bounds-as_slice-front-in-Ok
+bounds-as_slice-front-in-Ok c =
     let (steps, core, may) = c.requires.may in
     let hand = c.parts_are_at_hand.ensures c.args.design.now.value c.args.limits.now c.args.tables.now steps c.args.p c.args.front core.stands may in
     subst (λ n. c.args.front.segment < n) (sym (ap length c.as_slice.ensures)) hand.reach.segment
@@ -67,7 +67,7 @@ returns-clause-out c steps core may =
       places = refl;
     }) in
     dispatched_so design limits t steps p f stands hand next (record {
-      design = c.in_ok-shared.ensures.cases;
+      design = c.in-Ok.ensures.cases;
       process = refl;
       activation = kept.activations;
       stamp = refl;

@@ -20,7 +20,7 @@ histories-requires c =
     let (limits, t, steps, f) = c.requires.over in
     let design = c.args.design.now in
     let off = c.reports_are_read_off.ensures design limits t f.has.stands.ready steps f.has.stands.lawful in
-    let count = c.len.ensures in
+    let count = c.len-count.ensures in
     let same = channels_are design limits t steps c.args.self.now f off in
     (forgetting c.args.self.now.below (operations_on (rules_of design limits t) (after design limits t steps).board), asked design limits t steps c.args.self.now f off, omega (arith, count, same))
 
@@ -44,9 +44,9 @@ returns c = λ limits t steps found f run_is.
       in_order = subst (IsSortedBy (λ x y. precedes x.place y.place)) (sym c.from_vec.ensures) c.put_in_order.ensures.in_order;
       histories =
           subst (AreHistoriesBy ops by (length design.channels)) (sym c.from_vec-2.ensures)
-          (subst (λ n. AreHistoriesBy ops by n c.in_ok-channels.channels.items) c.len.ensures
-          (subst (λ o. AreHistoriesBy ops o c.len.result c.in_ok-channels.channels.items) c.counted_before-before.ensures
-          (c.in_ok-channels.ensures ops (asked design limits t steps core f off))));
+          (subst (λ n. AreHistoriesBy ops by n c.in-Ok.made.items) c.len-count.ensures
+          (subst (λ o. AreHistoriesBy ops o c.len-count.result c.in-Ok.made.items) c.counted_before-before.ensures
+          (c.in-Ok.ensures ops (asked design limits t steps core f off))));
       end =
           c.end_of.ensures r (sym f.has.core.has_cut.stop)
           ∙ ap (λ l. ended_by (break_shown core.cut.deltas (ends_of core.cut next) (break_of core.cut.broken)) (stop_shown core.cut.deltas next core.cut.stopped) (end_at r l next))

@@ -37,15 +37,15 @@ copies-requires c =
     subst (λ n. All (λ x. x < n) c.as_slice-read.result.now) (sym count)
     (subst (All (λ x. x < length c.args.design.now.variables)) (sym (c.as_slice-read.ensures ∙ is)) within)
 
-pub sights-requires-clause-may : goal.sights-requires-clause-may
-sights-requires-clause-may c =
+pub sights-seen-requires-clause-may : goal.sights-seen-requires-clause-may
+sights-seen-requires-clause-may c =
     let h = allowed_at c.args.design.now c.args.tables.now c.args.self.now c.args.front c.parts_are_at_hand.ensures c.requires.may in
     let is = watched_is c.args.design.now h.limits c.args.tables.now h.steps h.p c.args.front h.core.stands h.hand c.args.links.now c.requires.links c.index-2.result.now c.index-2.ensures in
     subst (MayAsk c.args.design.now c.args.self.now.bank c.args.front.stamp) (sym (c.as_slice-watched.ensures ∙ is))
     (may_ask c.args.design.now h.limits c.args.tables.now h.steps h.p c.args.front h.core.stands h.hand h.may c.args.self.now.bank c.args.self.now.below h.core.core.has_bank)
 
-pub sights-requires-clause-ascending : goal.sights-requires-clause-ascending
-sights-requires-clause-ascending c =
+pub sights-seen-requires-clause-ascending : goal.sights-seen-requires-clause-ascending
+sights-seen-requires-clause-ascending c =
     let h = allowed_at c.args.design.now c.args.tables.now c.args.self.now c.args.front c.parts_are_at_hand.ensures c.requires.may in
     let is = watched_is c.args.design.now h.limits c.args.tables.now h.steps h.p c.args.front h.core.stands h.hand c.args.links.now c.requires.links c.index-2.result.now c.index-2.ensures in
     subst Ascend (sym (c.as_slice-watched.ensures ∙ is)) (watched_ascend (access_of (rules_of c.args.design.now h.limits c.args.tables.now) c.args.front.segment) c.args.design.now.channels)
@@ -62,15 +62,15 @@ returns c limits steps p core may =
     let watched = watched_is design limits t steps p f stands hand c.args.links.now c.requires.links c.index-2.result.now c.index-2.ensures in
     let below = c.args.self.now.below in
     let ops = forgetting below (operations_on (rules_of design limits t) (after design limits t steps).board) in
-    let told = c.in_ok-seen.ensures.seen ops (asked design limits t steps p f stands hand may c.args.self.now.bank below core.core.has_bank) in
+    let told = c.in-Ok-seen.ensures.seen ops (asked design limits t steps p f stands hand may c.args.self.now.bank below core.core.has_bank) in
     record {
       owned = c.in_ok-owned.ensures ∙ ap bare (c.as_slice-written.ensures ∙ ap (λ (a : Access). a.written) (sym c.index-as_slice-g.is ∙ access));
       copied =
-          c.in_ok-copied.ensures ∙ ap (λ vs. carried_from vs c.as_slice-read.result.now) c.as_slice-2.ensures.value
+          c.in-Ok.ensures ∙ ap (λ vs. carried_from vs c.as_slice-read.result.now) c.as_slice-2.ensures.value
           ∙ ap (carried_from c.args.self.now.variables.items) (c.as_slice-read.ensures ∙ read);
       seen =
           told ∙ ap (sights_of f.stamp ops design.channels) (c.as_slice-watched.ensures ∙ watched)
           ∙ seen_is design limits t steps p f stands hand below;
-      few = c.in_ok-seen.ensures.few;
-      ascending = c.in_ok-seen.ensures.ascending;
+      few = c.in-Ok-seen.ensures.few;
+      ascending = c.in-Ok-seen.ensures.ascending;
     }
