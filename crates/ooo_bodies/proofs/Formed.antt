@@ -1,5 +1,7 @@
 -- Equations of expressions, form by form.
-use Rattle.std.proofs.Common.{◌≡◌, ◌∙◌, ap, sym, Bool, List, [], ◌++◌, Option, Some, None}
+use Rattle.std.proofs.Common.{◌≡◌, ◌∙◌, ap, subst, sym, Bool, List, [], ◌++◌, Option, Some, None, Result}
+use Rattle.std.specs.Prelude.{IfOk, OnOk}
+use Rattle.std.specs.declared.alloc.AllocError.{AllocError}
 use Rattle.std.proofs.lemmas.Simd.{map-map}
 use Rattle.ooo_lexer.specs.declared.position.Position.{Position}
 use Rattle.ooo_value.specs.Values.{kind_of as kind_of_value}
@@ -30,6 +32,23 @@ Reading = Scope → Checked CheckedExpr
 at_layer : (y : Expr-F Expr) (s : Scope) → expr_of (roll-Expr y) s ≡ expr_step (map-Expr Expr Reading expr_of y) s
 unfolding expr_of
 at_layer y s = ap (λ (f : Reading). f s) (fold-roll-Expr Reading expr_step y)
+
+-- what was made is the tree of the expression, and what is noted are its notes, where they are so of its form
+module _ (e : Expr) {e' : Expr} (s : Scope) {w : Checked CheckedExpr} (is : e ≡ e') (by : expr_of e' s ≡ w) where
+  formed : expr_of e s ≡ w
+  formed = ap (λ x. expr_of x s) is ∙ by
+
+  pub formed-tree : (r : CheckedExpr) → r ≡ w.tree → r ≡ (expr_of e s).tree
+  formed-tree r h = h ∙ sym (ap (λ (c : Checked CheckedExpr). c.tree) formed)
+
+  pub formed-notes : (n m : Notes) → m ≡ noted n w.notes → m ≡ noted n (expr_of e s).notes
+  formed-notes n m h = h ∙ ap (λ (c : Checked CheckedExpr). noted n c.notes) (sym formed)
+
+  pub formed-result : (r : Result CheckedExpr AllocError) → IfOk r (λ tree. tree ≡ w.tree) → IfOk r (λ tree. tree ≡ (expr_of e s).tree)
+  formed-result r = subst (λ (c : Checked CheckedExpr). IfOk r (λ tree. tree ≡ c.tree)) (sym formed)
+
+  pub formed-noted : (r : Result CheckedExpr AllocError) (n m : Notes) → OnOk r (m ≡ noted n w.notes) → OnOk r (m ≡ noted n (expr_of e s).notes)
+  formed-noted r n m = subst (λ (c : Checked CheckedExpr). OnOk r (m ≡ noted n c.notes)) (sym formed)
 
 module _ (s : Scope) where
   -- a literal, and a name by itself

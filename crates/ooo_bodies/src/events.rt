@@ -33,11 +33,11 @@ pub fn time(
     match time {
         TimeForm::Zero(at) => Ok(CheckedTime::Zero(*at)),
         TimeForm::Made(at, amount, scale) => {
-            let amount = expr(alloc, amount, scopes, notes)?;
+            let amount = got!(expr(alloc, amount, scopes, notes));
             Ok(CheckedTime::Made(*at, amount, *scale))
         }
         TimeForm::Amount(amount, scale) => {
-            let amount = expr(alloc, amount, scopes, notes)?;
+            let amount = got!(expr(alloc, amount, scopes, notes));
             Ok(CheckedTime::Amount(amount, *scale))
         }
     }
@@ -171,20 +171,17 @@ pub fn awaited(
 {
     match awaited {
         Awaited::Sensitive => Ok(CheckedAwaited::Sensitive),
-        Awaited::Delay(most) => Ok(CheckedAwaited::Delay(time(alloc, most, scopes, notes)?)),
+        Awaited::Delay(most) => {
+            let most = got!(time(alloc, most, scopes, notes));
+            Ok(CheckedAwaited::Delay(most))
+        }
         Awaited::Until(most, es) => {
-            let most = time(alloc, most, scopes, notes)?;
-            let es = events(alloc, false, es, scopes, notes);
-            match es {
-                Ok(es) => Ok(CheckedAwaited::Until(most, es)),
-                Err(error) => {
-                    drop(most);
-                    Err(error)
-                }
-            }
+            let most = got!(time(alloc, most, scopes, notes));
+            let es = keeping!(most; events(alloc, false, es, scopes, notes));
+            Ok(CheckedAwaited::Until(most, es))
         }
         Awaited::Events(es) => {
-            let es = events(alloc, false, es, scopes, notes)?;
+            let es = got!(events(alloc, false, es, scopes, notes));
             Ok(CheckedAwaited::Events(es))
         }
     }

@@ -36,7 +36,7 @@ pub fn expr(
         Expr::Truth(is_true, at) => Ok(CheckedExpr::Truth(*is_true, *at)),
         Expr::Name(word) => named(alloc, word, scopes, notes),
         Expr::Paren(at, inner) => {
-            let tree = boxed(alloc, inner.get(), scopes, notes)?;
+            let tree = got!(boxed(alloc, inner.get(), scopes, notes));
             Ok(CheckedExpr::Paren(tree.get().kind(), *at, tree))
         }
         Expr::Index(word, index) => indexed(alloc, word, index.get(), scopes, notes),
@@ -47,27 +47,27 @@ pub fn expr(
             member(alloc, call, arg, scopes, notes)
         }
         Expr::Prefix(at, op, operand) => {
-            let tree = boxed(alloc, operand.get(), scopes, notes)?;
+            let tree = got!(boxed(alloc, operand.get(), scopes, notes));
             Ok(CheckedExpr::Prefix(prefix_kind(*op, tree.get().kind()), *at, *op, tree))
         }
         Expr::Cast(at, form, operand) => {
-            let tree = boxed(alloc, operand.get(), scopes, notes)?;
+            let tree = got!(boxed(alloc, operand.get(), scopes, notes));
             Ok(CheckedExpr::Cast(kind_written(form.form), *at, *form, tree))
         }
         Expr::Conversion(form, operand) => {
-            let tree = boxed(alloc, operand.get(), scopes, notes)?;
+            let tree = got!(boxed(alloc, operand.get(), scopes, notes));
             Ok(CheckedExpr::Conversion(kind_written(form.form), *form, tree))
         }
         Expr::Binary(op, left, right) => {
-            let a = boxed(alloc, left.get(), scopes, notes)?;
-            let b = boxed(alloc, right.get(), scopes, notes)?;
+            let a = got!(boxed(alloc, left.get(), scopes, notes));
+            let b = keeping!(a; boxed(alloc, right.get(), scopes, notes));
             let kind = binary_kind(*op, a.get().kind(), b.get().kind());
             Ok(CheckedExpr::Binary(kind, *op, a, b))
         }
         Expr::Choose(test, yes, no) => {
-            let c = boxed(alloc, test.get(), scopes, notes)?;
-            let a = boxed(alloc, yes.get(), scopes, notes)?;
-            let b = boxed(alloc, no.get(), scopes, notes)?;
+            let c = got!(boxed(alloc, test.get(), scopes, notes));
+            let a = keeping!(c; boxed(alloc, yes.get(), scopes, notes));
+            let b = keeping!(c, a; boxed(alloc, no.get(), scopes, notes));
             let kind = choice_kind(a.get().kind(), b.get().kind());
             Ok(CheckedExpr::Choose(kind, c, a, b))
         }
@@ -86,7 +86,7 @@ pub(crate) fn boxed(
     ensures tree { IfOk result (λ tree. tree ≡ (expr_of e.now scopes.now).tree) }
     ensures notes { OnOk result (notes.new ≡ noted notes.old (expr_of e.now scopes.now).notes) }
 {
-    let tree = expr(alloc, e, scopes, notes)?;
+    let tree = got!(expr(alloc, e, scopes, notes));
     Boxed::new(alloc, tree)
 }
 

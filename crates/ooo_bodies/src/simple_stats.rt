@@ -212,8 +212,8 @@ fn call(
         ≡ noted notes.old (call_stat_of word.now args.now scopes.now).notes) }
 {
     let denotes = scopes.denotes(word.name.as_bytes());
-    notes.call(CallPlace::Statement, denotes, args.len(), word.position)?;
-    let trees = exprs(alloc, args, scopes, notes)?;
+    got!(notes.call(CallPlace::Statement, denotes, args.len(), word.position));
+    let trees = got!(exprs(alloc, args, scopes, notes));
     let name = keeping!(trees; resolve(alloc, scopes, word));
     Ok(CheckedSimple::Call(name, trees))
 }
@@ -288,7 +288,7 @@ fn member(
     ensures notes { OnOk result (notes.new
         ≡ noted notes.old (member_stat_of word.now after.now arg.now scopes.now).notes) }
 {
-    let name = resolve(alloc, scopes, word)?;
+    let name = got!(resolve(alloc, scopes, word));
     let dot = keeping!(name; copy_word(alloc, after));
     let thing = name.denotes.thing;
     let method = thing.method(after.name.as_bytes());
@@ -312,7 +312,7 @@ fn notify(
     ensures notes { OnOk result (notes.new
         ≡ noted notes.old (notify_of word.now dot delay.now scopes.now).notes) }
 {
-    let name = resolve(alloc, scopes, word)?;
+    let name = got!(resolve(alloc, scopes, word));
     notes.notifies(name.denotes.thing, word.position, dot);
     let delay = keeping!(name; time(alloc, delay, scopes, notes));
     Ok(CheckedSimple::Notify(name, dot, delay))
@@ -331,7 +331,7 @@ fn cancel(
     ensures notes { OnOk result (notes.new
         ≡ noted notes.old (simple_of (Simple.Cancel word.now dot) scopes.now).notes) }
 {
-    let name = resolve(alloc, scopes, word)?;
+    let name = got!(resolve(alloc, scopes, word));
     notes.notifies(name.denotes.thing, word.position, dot);
     Ok(CheckedSimple::Cancel(name, dot))
 }
@@ -349,8 +349,8 @@ fn wait(
     ensures notes { OnOk result (notes.new
         ≡ noted notes.old (simple_of (Simple.Wait at what.now) scopes.now).notes) }
 {
-    notes.waits(at)?;
-    let what = awaited(alloc, what, scopes, notes)?;
+    got!(notes.waits(at));
+    let what = got!(awaited(alloc, what, scopes, notes));
     Ok(CheckedSimple::Wait(at, what))
 }
 
@@ -367,8 +367,8 @@ fn next_trigger(
     ensures notes { OnOk result (notes.new
         ≡ noted notes.old (simple_of (Simple.NextTrigger at what.now) scopes.now).notes) }
 {
-    notes.triggers(at)?;
-    let what = awaited(alloc, what, scopes, notes)?;
+    got!(notes.triggers(at));
+    let what = got!(awaited(alloc, what, scopes, notes));
     Ok(CheckedSimple::NextTrigger(at, what))
 }
 
@@ -406,7 +406,7 @@ pub fn simple_stat(
         Simple::NextTrigger(at, what) => next_trigger(alloc, *at, what, scopes, notes),
         Simple::Stop(at) => Ok(CheckedSimple::Stop(*at)),
         Simple::Print(at, is) => {
-            let is = items(alloc, is, scopes, notes)?;
+            let is = got!(items(alloc, is, scopes, notes));
             Ok(CheckedSimple::Print(*at, is))
         }
     }

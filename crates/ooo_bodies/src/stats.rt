@@ -73,18 +73,11 @@ fn declarator(
     let denotes = local_denotation(kind, context, scopes);
     let is_again = scopes.is_declared_here(declared.name.name.as_bytes());
     notes.breaks_when(is_again, TypeBreach::DeclaredTwice, declared.name.position);
-    let word = copy_word(alloc, &declared.name)?;
-    let value = initial(alloc, &declared.value, scopes, notes)?;
-    match scopes.declare(declared.name.name.as_bytes(), denotes) {
-        Ok(()) => {
-            let name = Resolved { word, denotes };
-            Ok(CheckedDeclarator { name, value })
-        }
-        Err(error) => {
-            drop(value);
-            Err(error)
-        }
-    }
+    let word = got!(copy_word(alloc, &declared.name));
+    let value = keeping!(word; initial(alloc, &declared.value, scopes, notes));
+    keeping!(word, value; scopes.declare(declared.name.name.as_bytes(), denotes));
+    let name = Resolved { word, denotes };
+    Ok(CheckedDeclarator { name, value })
 }
 
 // Declarators one after the other.
@@ -185,11 +178,11 @@ fn start(
 {
     match begins {
         ForStart::Local(names) => {
-            let names = local(alloc, context, names, scopes, notes)?;
+            let names = got!(local(alloc, context, names, scopes, notes));
             Ok(CheckedStart::Local(names))
         }
         ForStart::Simple(statement) => {
-            let statement = simple_stat(alloc, statement, scopes, notes)?;
+            let statement = got!(simple_stat(alloc, statement, scopes, notes));
             Ok(CheckedStart::Simple(statement))
         }
     }
@@ -331,7 +324,7 @@ pub fn stat(
 {
     match statement {
         Stat::Block(at, body) => {
-            let body = block(alloc, context, body, scopes, notes)?;
+            let body = got!(block(alloc, context, body, scopes, notes));
             Ok(CheckedStat::Block(*at, body))
         }
         Stat::Empty(at) => Ok(CheckedStat::Empty(*at)),
@@ -340,9 +333,9 @@ pub fn stat(
         Stat::If(at, test, yes, no) => {
             let condition = test.get();
             let first = yes.get();
-            let test = boxed(alloc, condition, scopes, notes)?;
-            let yes = inner(alloc, context, first, scopes, notes)?;
-            let no = otherwise(alloc, context, no, scopes, notes)?;
+            let test = got!(boxed(alloc, condition, scopes, notes));
+            let yes = keeping!(test; inner(alloc, context, first, scopes, notes));
+            let no = keeping!(test, yes; otherwise(alloc, context, no, scopes, notes));
             Ok(CheckedStat::If(*at, test, yes, no))
         }
         Stat::While(at, test, body) => {
@@ -585,7 +578,7 @@ fn for_head(
         head.entry.begins.now head.entry.test.now head.entry.after.now scopes.old)) }
     ensures outer { OnOk result (left scopes.new ≡ left scopes.old) }
 {
-    let begins = option_start(alloc, context, head.begins, scopes, notes)?;
+    let begins = got!(option_start(alloc, context, head.begins, scopes, notes));
     let test = keeping!(begins; boxed_option(alloc, head.test, scopes, notes));
     let after = keeping!(begins, test; step(alloc, head.after, scopes, notes));
     Ok(CheckedForHead {

@@ -1,4 +1,4 @@
-use Rattle.std.proofs.Common.{◌≡◌, ◌∙◌, ap, sym, refl, ℕ, List, Option, length, rules}
+use Rattle.std.proofs.Common.{◌≡◌, ◌∙◌, ap, sym, refl, ℕ, List, Option, length}
 use Rattle.std.proofs.lemmas.List.{length-map}
 use Rattle.ooo_syntax.specs.declared.expr.Expr.{Expr}
 use Rattle.ooo_lexer.specs.declared.position.Position.{Position}
@@ -6,138 +6,140 @@ use Rattle.ooo_checked.specs.declared.denotation.Denotation.{Denotation}
 use Rattle.ooo_checked.specs.declared.denotation.Method.{Method}
 use Rattle.ooo_checked.specs.declared.denotation.Thing.{Thing}
 use Rattle.ooo_checked.specs.declared.expr.CheckedExpr.{CheckedExpr}
-use Rattle.ooo_checked.specs.Exprs.{argument_notes, call_notes, count_of, expr_of, exprs_of, index_notes, member_notes, option_of}
+use Rattle.ooo_checked.specs.declared.expr.CheckedExpr.TheVariants as expr
+use Rattle.ooo_checked.specs.Exprs.{argument_notes, call_notes, count_of, expr_of, exprs_of, index_notes, kind_written, member_notes, option_of, prefix_kind}
+use Rattle.ooo_checked.specs.Kinds.{kind_of}
 use Rattle.ooo_checked.specs.Notes.{Checked, Note, all_notes}
 use Rattle.ooo_checked.specs.Scopes.{Scope, meaning_of}
 use Rattle.ooo_checked.specs.Things.{method_of}
 use Rattle.ooo_bodies.specs.Noting.{noted}
 use Rattle.ooo_bodies.specs.Parts.{noted_two, trees_step, notes_step}
 use Rattle.ooo_bodies.proofs.Formed.{expr_of-Binary, expr_of-Call, expr_of-Cast, expr_of-Choose, expr_of-Conversion, expr_of-Index, expr_of-Member}
-use Rattle.ooo_bodies.proofs.Formed.{expr_of-Name, expr_of-Number, expr_of-Paren, expr_of-Prefix, expr_of-Truth, noted-Binary, noted-Choose}
+use Rattle.ooo_bodies.proofs.Formed.{expr_of-Name, expr_of-Number, expr_of-Paren, expr_of-Prefix, expr_of-Truth, formed-noted, formed-notes, formed-result, formed-tree, noted-Binary, noted-Choose}
 use Rattle.ooo_bodies.proofs.exprs.+expr.Goals as goal
 
 pub expr-returns-in-Number-clause-tree : goal.expr-returns-in-Number-clause-tree
 expr-returns-in-Number-clause-tree t c =
-    rw (c.in-Number.is, expr_of-Number c.args.scopes.now c.in-Number.number)
-    (search rules)
+    formed-tree c.args.e.now c.args.scopes.now c.in-Number.is (expr_of-Number c.args.scopes.now c.in-Number.number)
+    _ (ap (λ k. expr.Number k c.in-Number.number) c.kind.ensures)
 
 pub expr-returns-in-Number-clause-notes : goal.expr-returns-in-Number-clause-notes
 expr-returns-in-Number-clause-notes t c =
-    rw (c.in-Number.is, expr_of-Number c.args.scopes.now c.in-Number.number)
-    (search rules)
+    formed-notes c.args.e.now c.args.scopes.now c.in-Number.is (expr_of-Number c.args.scopes.now c.in-Number.number)
+    c.args.notes.now c.args.notes.now refl
 
 pub expr-returns-in-Truth-clause-tree : goal.expr-returns-in-Truth-clause-tree
 expr-returns-in-Truth-clause-tree t c =
-    rw (c.in-Truth.is, expr_of-Truth c.args.scopes.now c.in-Truth.is_true c.in-Truth.at)
-    (search rules)
+    formed-tree c.args.e.now c.args.scopes.now c.in-Truth.is (expr_of-Truth c.args.scopes.now c.in-Truth.is_true c.in-Truth.at)
+    _ refl
 
 pub expr-returns-in-Truth-clause-notes : goal.expr-returns-in-Truth-clause-notes
 expr-returns-in-Truth-clause-notes t c =
-    rw (c.in-Truth.is, expr_of-Truth c.args.scopes.now c.in-Truth.is_true c.in-Truth.at)
-    (search rules)
+    formed-notes c.args.e.now c.args.scopes.now c.in-Truth.is (expr_of-Truth c.args.scopes.now c.in-Truth.is_true c.in-Truth.at)
+    c.args.notes.now c.args.notes.now refl
 
 pub expr-returns-in-Name-clause-tree : goal.expr-returns-in-Name-clause-tree
 expr-returns-in-Name-clause-tree t c =
-    rw (c.in-Name.is, expr_of-Name c.args.scopes.now c.in-Name.word)
-    (search rules)
+    formed-result c.args.e.now c.args.scopes.now c.in-Name.is (expr_of-Name c.args.scopes.now c.in-Name.word)
+    c.named.result c.named.ensures.tree
 
 pub expr-returns-in-Name-clause-notes : goal.expr-returns-in-Name-clause-notes
 expr-returns-in-Name-clause-notes t c =
-    rw (c.in-Name.is, expr_of-Name c.args.scopes.now c.in-Name.word)
-    (search rules)
-
-pub expr-returns-in_ok-tree-in-Paren-clause-tree : goal.expr-returns-in_ok-tree-in-Paren-clause-tree
-expr-returns-in_ok-tree-in-Paren-clause-tree t c =
-    rw (c.in-Paren.is, expr_of-Paren c.args.scopes.now c.in-Paren.at c.in-Paren.inner)
-    (search rules)
-
-pub expr-returns-in_ok-tree-in-Paren-clause-notes : goal.expr-returns-in_ok-tree-in-Paren-clause-notes
-expr-returns-in_ok-tree-in-Paren-clause-notes t c =
-    rw (c.in-Paren.is, expr_of-Paren c.args.scopes.now c.in-Paren.at c.in-Paren.inner)
-    (search rules)
+    formed-noted c.args.e.now c.args.scopes.now c.in-Name.is (expr_of-Name c.args.scopes.now c.in-Name.word)
+    c.named.result c.args.notes.now c.named.new.notes c.named.ensures.notes
 
 pub expr-returns-in-Index-clause-tree : goal.expr-returns-in-Index-clause-tree
 expr-returns-in-Index-clause-tree t c =
-    rw (c.in-Index.is, expr_of-Index c.args.scopes.now c.in-Index.word c.in-Index.index)
-    (search rules)
+    formed-result c.args.e.now c.args.scopes.now c.in-Index.is (expr_of-Index c.args.scopes.now c.in-Index.word c.in-Index.index)
+    c.indexed.result (rw c.get-in-Index.ensures at c.indexed.ensures.tree)
 
 pub expr-returns-in-Index-clause-notes : goal.expr-returns-in-Index-clause-notes
 expr-returns-in-Index-clause-notes t c =
-    rw (c.in-Index.is, expr_of-Index c.args.scopes.now c.in-Index.word c.in-Index.index)
-    (search rules)
+    formed-noted c.args.e.now c.args.scopes.now c.in-Index.is (expr_of-Index c.args.scopes.now c.in-Index.word c.in-Index.index)
+    c.indexed.result c.args.notes.now c.indexed.new.notes (rw c.get-in-Index.ensures at c.indexed.ensures.notes)
 
 pub expr-returns-in-Call-clause-tree : goal.expr-returns-in-Call-clause-tree
 expr-returns-in-Call-clause-tree t c =
-    rw (c.in-Call.is, expr_of-Call c.args.scopes.now c.in-Call.word c.in-Call.args)
-    c.call.ensures.tree
+    formed-result c.args.e.now c.args.scopes.now c.in-Call.is (expr_of-Call c.args.scopes.now c.in-Call.word c.in-Call.args)
+    c.call.result c.call.ensures.tree
 
 pub expr-returns-in-Call-clause-notes : goal.expr-returns-in-Call-clause-notes
 expr-returns-in-Call-clause-notes t c =
-    rw (c.in-Call.is, expr_of-Call c.args.scopes.now c.in-Call.word c.in-Call.args)
-    c.call.ensures.notes
+    formed-noted c.args.e.now c.args.scopes.now c.in-Call.is (expr_of-Call c.args.scopes.now c.in-Call.word c.in-Call.args)
+    c.call.result c.args.notes.now c.call.new.notes c.call.ensures.notes
 
 pub expr-returns-in-Member-clause-tree : goal.expr-returns-in-Member-clause-tree
 expr-returns-in-Member-clause-tree t c =
-    rw (c.in-Member.is, expr_of-Member c.args.scopes.now c.in-Member.word c.in-Member.after c.in-Member.arg)
-    c.member.ensures.tree
+    formed-result c.args.e.now c.args.scopes.now c.in-Member.is (expr_of-Member c.args.scopes.now c.in-Member.word c.in-Member.after c.in-Member.arg)
+    c.member.result c.member.ensures.tree
 
 pub expr-returns-in-Member-clause-notes : goal.expr-returns-in-Member-clause-notes
 expr-returns-in-Member-clause-notes t c =
-    rw (c.in-Member.is, expr_of-Member c.args.scopes.now c.in-Member.word c.in-Member.after c.in-Member.arg)
-    c.member.ensures.notes
+    formed-noted c.args.e.now c.args.scopes.now c.in-Member.is (expr_of-Member c.args.scopes.now c.in-Member.word c.in-Member.after c.in-Member.arg)
+    c.member.result c.args.notes.now c.member.new.notes c.member.ensures.notes
 
-pub expr-returns-in_ok-tree-in-Prefix-clause-tree : goal.expr-returns-in_ok-tree-in-Prefix-clause-tree
-expr-returns-in_ok-tree-in-Prefix-clause-tree t c =
-    rw (c.in-Prefix.is, expr_of-Prefix c.args.scopes.now c.in-Prefix.at c.in-Prefix.op c.in-Prefix.operand)
-    (search rules)
+pub expr-returns-in-Ok-clause-tree : goal.expr-returns-in-Ok-clause-tree
+expr-returns-in-Ok-clause-tree t c =
+    formed-tree c.args.e.now c.args.scopes.now c.in-Paren.is (expr_of-Paren c.args.scopes.now c.in-Paren.at c.in-Paren.inner)
+    _ (ap (λ k. expr.Paren k c.in-Paren.at c.in-Ok.made) (c.kind-in-Paren.ensures ∙ ap kind_of c.get-in-Paren.ensures) ∙ ap (λ t. expr.Paren (kind_of t) c.in-Paren.at t) (c.in-Ok.ensures.tree ∙ ap (λ x. (expr_of x c.args.scopes.now).tree) c.get.ensures))
 
-pub expr-returns-in_ok-tree-in-Prefix-clause-notes : goal.expr-returns-in_ok-tree-in-Prefix-clause-notes
-expr-returns-in_ok-tree-in-Prefix-clause-notes t c =
-    rw (c.in-Prefix.is, expr_of-Prefix c.args.scopes.now c.in-Prefix.at c.in-Prefix.op c.in-Prefix.operand)
-    (search rules)
+pub expr-returns-in-Ok-clause-notes : goal.expr-returns-in-Ok-clause-notes
+expr-returns-in-Ok-clause-notes t c =
+    formed-notes c.args.e.now c.args.scopes.now c.in-Paren.is (expr_of-Paren c.args.scopes.now c.in-Paren.at c.in-Paren.inner)
+    c.args.notes.now c.boxed.new.notes (c.in-Ok.ensures.notes ∙ ap (λ x. noted c.args.notes.now (expr_of x c.args.scopes.now).notes) c.get.ensures)
 
-pub expr-returns-in_ok-tree-in-Cast-clause-tree : goal.expr-returns-in_ok-tree-in-Cast-clause-tree
-expr-returns-in_ok-tree-in-Cast-clause-tree t c =
-    rw (c.in-Cast.is, expr_of-Cast c.args.scopes.now c.in-Cast.at c.in-Cast.form c.in-Cast.operand)
-    (search rules)
+pub expr-returns-in-Ok-boxed-clause-tree : goal.expr-returns-in-Ok-boxed-clause-tree
+expr-returns-in-Ok-boxed-clause-tree t c =
+    formed-tree c.args.e.now c.args.scopes.now c.in-Prefix.is (expr_of-Prefix c.args.scopes.now c.in-Prefix.at c.in-Prefix.op c.in-Prefix.operand)
+    _ (ap (λ k. expr.Prefix k c.in-Prefix.at c.in-Prefix.op c.in-Ok-boxed.made) (c.prefix_kind.ensures ∙ ap (λ k. prefix_kind c.in-Prefix.op k) (c.kind-in-Prefix.ensures ∙ ap kind_of c.get-in-Prefix-2.ensures)) ∙ ap (λ t. expr.Prefix (prefix_kind c.in-Prefix.op (kind_of t)) c.in-Prefix.at c.in-Prefix.op t) (c.in-Ok-boxed.ensures.tree ∙ ap (λ x. (expr_of x c.args.scopes.now).tree) c.get-in-Prefix.ensures))
 
-pub expr-returns-in_ok-tree-in-Cast-clause-notes : goal.expr-returns-in_ok-tree-in-Cast-clause-notes
-expr-returns-in_ok-tree-in-Cast-clause-notes t c =
-    rw (c.in-Cast.is, expr_of-Cast c.args.scopes.now c.in-Cast.at c.in-Cast.form c.in-Cast.operand)
-    (search rules)
+pub expr-returns-in-Ok-boxed-clause-notes : goal.expr-returns-in-Ok-boxed-clause-notes
+expr-returns-in-Ok-boxed-clause-notes t c =
+    formed-notes c.args.e.now c.args.scopes.now c.in-Prefix.is (expr_of-Prefix c.args.scopes.now c.in-Prefix.at c.in-Prefix.op c.in-Prefix.operand)
+    c.args.notes.now c.boxed-in-Prefix.new.notes (c.in-Ok-boxed.ensures.notes ∙ ap (λ x. noted c.args.notes.now (expr_of x c.args.scopes.now).notes) c.get-in-Prefix.ensures)
 
-pub expr-returns-in_ok-tree-in-Conversion-clause-tree : goal.expr-returns-in_ok-tree-in-Conversion-clause-tree
-expr-returns-in_ok-tree-in-Conversion-clause-tree t c =
-    rw (c.in-Conversion.is, expr_of-Conversion c.args.scopes.now c.in-Conversion.form c.in-Conversion.operand)
-    (search rules)
+pub expr-returns-in-Ok-boxed-2-clause-tree : goal.expr-returns-in-Ok-boxed-2-clause-tree
+expr-returns-in-Ok-boxed-2-clause-tree t c =
+    formed-tree c.args.e.now c.args.scopes.now c.in-Cast.is (expr_of-Cast c.args.scopes.now c.in-Cast.at c.in-Cast.form c.in-Cast.operand)
+    _ (ap (λ k. expr.Cast k c.in-Cast.at c.in-Cast.form c.in-Ok-boxed-2.made) c.kind_written.ensures ∙ ap (λ t. expr.Cast (kind_written c.in-Cast.form.form) c.in-Cast.at c.in-Cast.form t) (c.in-Ok-boxed-2.ensures.tree ∙ ap (λ x. (expr_of x c.args.scopes.now).tree) c.get-in-Cast.ensures))
 
-pub expr-returns-in_ok-tree-in-Conversion-clause-notes : goal.expr-returns-in_ok-tree-in-Conversion-clause-notes
-expr-returns-in_ok-tree-in-Conversion-clause-notes t c =
-    rw (c.in-Conversion.is, expr_of-Conversion c.args.scopes.now c.in-Conversion.form c.in-Conversion.operand)
-    (search rules)
+pub expr-returns-in-Ok-boxed-2-clause-notes : goal.expr-returns-in-Ok-boxed-2-clause-notes
+expr-returns-in-Ok-boxed-2-clause-notes t c =
+    formed-notes c.args.e.now c.args.scopes.now c.in-Cast.is (expr_of-Cast c.args.scopes.now c.in-Cast.at c.in-Cast.form c.in-Cast.operand)
+    c.args.notes.now c.boxed-in-Cast.new.notes (c.in-Ok-boxed-2.ensures.notes ∙ ap (λ x. noted c.args.notes.now (expr_of x c.args.scopes.now).notes) c.get-in-Cast.ensures)
 
-pub expr-returns-in_ok-b-in-Binary-clause-tree : goal.expr-returns-in_ok-b-in-Binary-clause-tree
-expr-returns-in_ok-b-in-Binary-clause-tree t c =
-    rw (c.in-Binary.is, expr_of-Binary c.args.scopes.now c.in-Binary.op c.in-Binary.left c.in-Binary.right)
-    (search rules)
+pub expr-returns-in-Ok-boxed-3-clause-tree : goal.expr-returns-in-Ok-boxed-3-clause-tree
+expr-returns-in-Ok-boxed-3-clause-tree t c =
+    formed-tree c.args.e.now c.args.scopes.now c.in-Conversion.is (expr_of-Conversion c.args.scopes.now c.in-Conversion.form c.in-Conversion.operand)
+    _ (ap (λ k. expr.Conversion k c.in-Conversion.form c.in-Ok-boxed-3.made) c.kind_written-in-Conversion.ensures ∙ ap (λ t. expr.Conversion (kind_written c.in-Conversion.form.form) c.in-Conversion.form t) (c.in-Ok-boxed-3.ensures.tree ∙ ap (λ x. (expr_of x c.args.scopes.now).tree) c.get-in-Conversion.ensures))
 
-pub expr-returns-in_ok-b-in-Choose-clause-tree : goal.expr-returns-in_ok-b-in-Choose-clause-tree
-expr-returns-in_ok-b-in-Choose-clause-tree t c =
-    rw (c.in-Choose.is, expr_of-Choose c.args.scopes.now c.in-Choose.test c.in-Choose.yes c.in-Choose.no)
-    (search rules)
+pub expr-returns-in-Ok-boxed-3-clause-notes : goal.expr-returns-in-Ok-boxed-3-clause-notes
+expr-returns-in-Ok-boxed-3-clause-notes t c =
+    formed-notes c.args.e.now c.args.scopes.now c.in-Conversion.is (expr_of-Conversion c.args.scopes.now c.in-Conversion.form c.in-Conversion.operand)
+    c.args.notes.now c.boxed-in-Conversion.new.notes (c.in-Ok-boxed-3.ensures.notes ∙ ap (λ x. noted c.args.notes.now (expr_of x c.args.scopes.now).notes) c.get-in-Conversion.ensures)
 
-pub expr-returns-in_ok-b-in-Binary-clause-notes : goal.expr-returns-in_ok-b-in-Binary-clause-notes
-expr-returns-in_ok-b-in-Binary-clause-notes t c =
+pub expr-returns-in-Ok-boxed-5-clause-tree : goal.expr-returns-in-Ok-boxed-5-clause-tree
+expr-returns-in-Ok-boxed-5-clause-tree t c =
+    formed-tree c.args.e.now c.args.scopes.now c.in-Binary.is (expr_of-Binary c.args.scopes.now c.in-Binary.op c.in-Binary.left c.in-Binary.right) _
+    (rw (c.binary_kind-kind.ensures, c.kind-in-Binary.ensures, c.kind-in-Binary-2.ensures, c.get-in-Binary-3.ensures, c.get-in-Binary-4.ensures, c.in-Ok-boxed-4.ensures.tree, c.in-Ok-boxed-5.ensures.tree, c.get-in-Binary.ensures, c.get-in-Binary-2.ensures) refl)
+
+pub expr-returns-in-Ok-boxed-8-clause-tree : goal.expr-returns-in-Ok-boxed-8-clause-tree
+expr-returns-in-Ok-boxed-8-clause-tree t c =
+    formed-tree c.args.e.now c.args.scopes.now c.in-Choose.is (expr_of-Choose c.args.scopes.now c.in-Choose.test c.in-Choose.yes c.in-Choose.no) _
+    (rw (c.choice_kind-kind.ensures, c.kind-in-Choose.ensures, c.kind-in-Choose-2.ensures, c.get-in-Choose-4.ensures, c.get-in-Choose-5.ensures, c.in-Ok-boxed-6.ensures.tree, c.in-Ok-boxed-7.ensures.tree, c.in-Ok-boxed-8.ensures.tree, c.get-in-Choose.ensures, c.get-in-Choose-2.ensures, c.get-in-Choose-3.ensures) refl)
+
+pub expr-returns-in-Ok-boxed-5-clause-notes : goal.expr-returns-in-Ok-boxed-5-clause-notes
+expr-returns-in-Ok-boxed-5-clause-notes t c =
     noted-Binary c.in-Binary.op c.args.e.now c.in-Binary.left c.in-Binary.right c.get-in-Binary.result.now
     c.get-in-Binary-2.result.now c.args.scopes.now c.args.notes.now c.boxed-in-Binary.new.notes c.boxed-in-Binary-2.new.notes
-    c.in-Binary.is c.get-in-Binary.ensures c.get-in-Binary-2.ensures c.in_ok-a-in-Binary.ensures.notes c.in_ok-b-in-Binary.ensures.notes
+    c.in-Binary.is c.get-in-Binary.ensures c.get-in-Binary-2.ensures c.in-Ok-boxed-4.ensures.notes c.in-Ok-boxed-5.ensures.notes
 
-pub expr-returns-in_ok-b-in-Choose-clause-notes : goal.expr-returns-in_ok-b-in-Choose-clause-notes
-expr-returns-in_ok-b-in-Choose-clause-notes t c =
+pub expr-returns-in-Ok-boxed-8-clause-notes : goal.expr-returns-in-Ok-boxed-8-clause-notes
+expr-returns-in-Ok-boxed-8-clause-notes t c =
     noted-Choose c.args.e.now c.in-Choose.test c.in-Choose.yes c.in-Choose.no c.get-in-Choose.result.now c.get-in-Choose-2.result.now
     c.get-in-Choose-3.result.now c.args.scopes.now c.args.notes.now c.boxed-in-Choose.new.notes c.boxed-in-Choose-2.new.notes
     c.boxed-in-Choose-3.new.notes c.in-Choose.is c.get-in-Choose.ensures c.get-in-Choose-2.ensures c.get-in-Choose-3.ensures
-    c.in_ok-c-in-Choose.ensures.notes c.in_ok-a-in-Choose.ensures.notes c.in_ok-b-in-Choose.ensures.notes
+    c.in-Ok-boxed-6.ensures.notes c.in-Ok-boxed-7.ensures.notes c.in-Ok-boxed-8.ensures.notes
 
 pub exprs-args-2-preserved : goal.exprs-args-2-preserved
 exprs-args-2-preserved t c =

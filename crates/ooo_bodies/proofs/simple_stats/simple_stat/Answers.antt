@@ -1,3 +1,5 @@
+use Rattle.std.proofs.Common.{ap, refl}
+use Rattle.ooo_checked.specs.declared.stat.CheckedSimple.TheVariants as simple
 use Rattle.ooo_bodies.proofs.simple_stats.simple_stat.Goals as goal
 
 pub returns-in-Assign-clause-tree : goal.returns-in-Assign-clause-tree
@@ -41,3 +43,27 @@ returns-in-NextTrigger-clause-tree c = rw c.in-NextTrigger.is c.next_trigger.ens
 
 pub returns-in-NextTrigger-clause-notes : goal.returns-in-NextTrigger-clause-notes
 returns-in-NextTrigger-clause-notes c = rw c.in-NextTrigger.is c.next_trigger.ensures.notes
+
+pub returns-in-Ok-clause-tree : goal.returns-in-Ok-clause-tree
+returns-in-Ok-clause-tree c = rw c.in-StepAfter.is (ap (λ t. simple.StepAfter t c.in-StepAfter.op) c.in-Ok.ensures.tree)
+
+pub returns-in-Ok-clause-notes : goal.returns-in-Ok-clause-notes
+returns-in-Ok-clause-notes c = rw c.in-StepAfter.is c.in-Ok.ensures.notes
+
+pub returns-in-Ok-target-clause-tree : goal.returns-in-Ok-target-clause-tree
+returns-in-Ok-target-clause-tree c = rw c.in-StepBefore.is (ap (λ t. simple.StepBefore c.in-StepBefore.at c.in-StepBefore.op t) c.in-Ok-target.ensures.tree)
+
+pub returns-in-Ok-target-clause-notes : goal.returns-in-Ok-target-clause-notes
+returns-in-Ok-target-clause-notes c = rw c.in-StepBefore.is c.in-Ok-target.ensures.notes
+
+pub returns-in-Stop-clause-tree : goal.returns-in-Stop-clause-tree
+returns-in-Stop-clause-tree c = rw c.in-Stop.is refl
+
+pub returns-in-Stop-clause-notes : goal.returns-in-Stop-clause-notes
+returns-in-Stop-clause-notes c = rw c.in-Stop.is refl
+
+pub returns-in-Ok-items-clause-tree : goal.returns-in-Ok-items-clause-tree
+returns-in-Ok-items-clause-tree c = rw c.in-Print.is (ap (λ xs. simple.Print c.in-Print.at xs) c.in-Ok-items.ensures.trees)
+
+pub returns-in-Ok-items-clause-notes : goal.returns-in-Ok-items-clause-notes
+returns-in-Ok-items-clause-notes c = rw c.in-Print.is c.in-Ok-items.ensures.notes

@@ -1,10 +1,10 @@
-use Rattle.std.proofs.Common.{◌∙◌, ap, refl, rules, List, Option}
+use Rattle.std.proofs.Common.{◌∙◌, ap, refl, rules, List, Option, Some}
 use Rattle.ooo_syntax.specs.declared.stat.ForStart.{ForStart}
 use Rattle.ooo_syntax.specs.declared.stat.Stat.{Stat}
 use Rattle.ooo_checked.specs.declared.stat.CheckedStat.{CheckedStat}
 use Rattle.ooo_checked.specs.declared.stat.CheckedStat.TheVariants as stat
 use Rattle.ooo_checked.specs.Exprs.{expr_of}
-use Rattle.ooo_checked.specs.Scopes.{Scope, entered}
+use Rattle.ooo_checked.specs.Scopes.{Scope, entered, left}
 use Rattle.ooo_checked.specs.Stats.{Stepped, head_notes, inner, looped, option_start_of, stat_of, stats_of}
 use Rattle.ooo_bodies.specs.Noting.{noted}
 use Rattle.ooo_bodies.proofs.Blocks.{stat_of-Block, stat_of-Break, stat_of-Continue, stat_of-Do, stat_of-Empty, stat_of-For, stat_of-If}
@@ -12,20 +12,20 @@ use Rattle.ooo_bodies.proofs.Blocks.{stat_of-Local, stat_of-Return, stat_of-Simp
 use Rattle.ooo_bodies.specs.Parts.{noted_two, ordered_trees, ordered_scope, ordered_notes}
 use Rattle.ooo_bodies.proofs.stats.+stat.Goals as goal
 
-pub stat-returns-in_ok-body-in-Block-clause-tree : goal.stat-returns-in_ok-body-in-Block-clause-tree
-stat-returns-in_ok-body-in-Block-clause-tree t c =
+pub stat-returns-in-Ok-clause-tree : goal.stat-returns-in-Ok-clause-tree
+stat-returns-in-Ok-clause-tree t c =
     rw (c.in-Block.is, stat_of-Block c.in-Block.at c.in-Block.body c.args.context c.args.scopes.now)
-    (ap (λ xs. stat.Block c.in-Block.at xs) c.in_ok-body-in-Block.ensures.trees)
+    (ap (λ xs. stat.Block c.in-Block.at xs) c.in-Ok.ensures.trees)
 
-pub stat-returns-in_ok-body-in-Block-clause-scope : goal.stat-returns-in_ok-body-in-Block-clause-scope
-stat-returns-in_ok-body-in-Block-clause-scope t c =
+pub stat-returns-in-Ok-clause-scope : goal.stat-returns-in-Ok-clause-scope
+stat-returns-in-Ok-clause-scope t c =
     rw (c.in-Block.is, stat_of-Block c.in-Block.at c.in-Block.body c.args.context c.args.scopes.now)
-    c.in_ok-body-in-Block.ensures.scope
+    c.in-Ok.ensures.scope
 
-pub stat-returns-in_ok-body-in-Block-clause-notes : goal.stat-returns-in_ok-body-in-Block-clause-notes
-stat-returns-in_ok-body-in-Block-clause-notes t c =
+pub stat-returns-in-Ok-clause-notes : goal.stat-returns-in-Ok-clause-notes
+stat-returns-in-Ok-clause-notes t c =
     rw (c.in-Block.is, stat_of-Block c.in-Block.at c.in-Block.body c.args.context c.args.scopes.now)
-    c.in_ok-body-in-Block.ensures.notes
+    c.in-Ok.ensures.notes
 
 pub stats-parts-preserved : goal.stats-parts-preserved
 stats-parts-preserved t c =
@@ -43,13 +43,13 @@ stats-parts-preserved t c =
       outer = c.in-Ok.ensures.outer ∙ c.parts.invariant.outer;
     }
 
-pub stat-returns-in_ok-no-in-If-clause-notes : goal.stat-returns-in_ok-no-in-If-clause-notes
-stat-returns-in_ok-no-in-If-clause-notes t c =
+pub stat-returns-in-Ok-otherwise-clause-notes : goal.stat-returns-in-Ok-otherwise-clause-notes
+stat-returns-in-Ok-otherwise-clause-notes t c =
     noted-If c.in-If.at c.in-If.test c.in-If.yes c.get-first.result.now c.in-If.no c.args.statement.now c.args.context
     c.args.scopes.now c.inner.new.scopes c.args.notes.now c.boxed.new.notes c.inner.new.notes c.otherwise.new.notes
-    c.in-If.is c.get-first.ensures c.in_ok-yes-in-If.ensures.scope
-    (rw c.get-condition.ensures at c.in_ok-test-in-If.ensures.notes) c.in_ok-yes-in-If.ensures.notes
-    c.in_ok-no-in-If.ensures.notes
+    c.in-If.is c.get-first.ensures c.in-Ok-inner.ensures.scope
+    (rw c.get-condition.ensures at c.in-Ok-boxed.ensures.notes) c.in-Ok-inner.ensures.notes
+    c.in-Ok-otherwise.ensures.notes
 
 pub while_stat-returns-clause-notes : goal.while_stat-returns-clause-notes
 while_stat-returns-clause-notes t c =
@@ -196,25 +196,115 @@ pub stat-returns-in-Return-clause-scope : goal.stat-returns-in-Return-clause-sco
 stat-returns-in-Return-clause-scope t c =
     rw (c.in-Return.is, stat_of-Return c.args.context c.args.scopes.now c.in-Return.at c.in-Return.value) (search rules)
 
-pub stat-returns-in_ok-no-in-If-clause-tree : goal.stat-returns-in_ok-no-in-If-clause-tree
-stat-returns-in_ok-no-in-If-clause-tree t c =
+pub stat-returns-in-Ok-otherwise-clause-tree : goal.stat-returns-in-Ok-otherwise-clause-tree
+stat-returns-in-Ok-otherwise-clause-tree t c =
     rw (
       c.in-If.is,
       stat_of-If c.args.context c.args.scopes.now c.in-If.at c.in-If.test c.in-If.yes c.in-If.no,
-      c.in_ok-test-in-If.ensures.tree,
+      c.in-Ok-boxed.ensures.tree,
       c.get-condition.ensures,
-      c.in_ok-yes-in-If.ensures.tree,
-      c.in_ok-no-in-If.ensures.tree,
-      c.in_ok-yes-in-If.ensures.scope,
+      c.in-Ok-inner.ensures.tree,
+      c.in-Ok-otherwise.ensures.tree,
+      c.in-Ok-inner.ensures.scope,
       c.get-first.ensures,
     ) refl
 
-pub stat-returns-in_ok-no-in-If-clause-scope : goal.stat-returns-in_ok-no-in-If-clause-scope
-stat-returns-in_ok-no-in-If-clause-scope t c =
+pub stat-returns-in-Ok-otherwise-clause-scope : goal.stat-returns-in-Ok-otherwise-clause-scope
+stat-returns-in-Ok-otherwise-clause-scope t c =
     rw (
       c.in-If.is,
       stat_of-If c.args.context c.args.scopes.now c.in-If.at c.in-If.test c.in-If.yes c.in-If.no,
-      c.in_ok-no-in-If.ensures.scope,
-      c.in_ok-yes-in-If.ensures.scope,
+      c.in-Ok-otherwise.ensures.scope,
+      c.in-Ok-inner.ensures.scope,
       c.get-first.ensures,
     ) refl
+
+pub stat-returns-in-Ok-clause-outer : goal.stat-returns-in-Ok-clause-outer
+stat-returns-in-Ok-clause-outer t c = c.in-Ok.ensures.outer
+
+pub stat-returns-in-Empty-clause-outer : goal.stat-returns-in-Empty-clause-outer
+stat-returns-in-Empty-clause-outer t c = refl
+
+pub stat-returns-in-Local-clause-outer : goal.stat-returns-in-Local-clause-outer
+stat-returns-in-Local-clause-outer t c = c.local_stat.ensures.outer
+
+pub stat-returns-in-While-clause-outer : goal.stat-returns-in-While-clause-outer
+stat-returns-in-While-clause-outer t c = c.while_stat.ensures.outer
+
+pub stat-returns-in-Do-clause-outer : goal.stat-returns-in-Do-clause-outer
+stat-returns-in-Do-clause-outer t c = c.do_stat.ensures.outer
+
+pub stat-returns-in-For-clause-outer : goal.stat-returns-in-For-clause-outer
+stat-returns-in-For-clause-outer t c = c.for_stat.ensures.outer
+
+pub stat-returns-in-Break-clause-outer : goal.stat-returns-in-Break-clause-outer
+stat-returns-in-Break-clause-outer t c = refl
+
+pub stat-returns-in-Continue-clause-outer : goal.stat-returns-in-Continue-clause-outer
+stat-returns-in-Continue-clause-outer t c = refl
+
+pub stat-returns-in-Ok-otherwise-clause-outer : goal.stat-returns-in-Ok-otherwise-clause-outer
+stat-returns-in-Ok-otherwise-clause-outer t c = c.in-Ok-otherwise.ensures.outer ∙ c.in-Ok-inner.ensures.outer
+
+pub block-returns-clause-trees : goal.block-returns-clause-trees
+block-returns-clause-trees t c = rw c.in_ok-enter.ensures.ok at c.in_ok-all.ensures.trees
+
+pub block-returns-clause-scope : goal.block-returns-clause-scope
+block-returns-clause-scope t c = c.leave.ensures ∙ ap left (rw c.in_ok-enter.ensures.ok at c.in_ok-all.ensures.scope)
+
+pub block-returns-clause-notes : goal.block-returns-clause-notes
+block-returns-clause-notes t c = rw c.in_ok-enter.ensures.ok at c.in_ok-all.ensures.notes
+
+pub block-returns-clause-outer : goal.block-returns-clause-outer
+block-returns-clause-outer t c = ap left (c.leave.ensures ∙ c.in_ok-all.ensures.outer ∙ ap left c.in_ok-enter.ensures.ok)
+
+pub while_stat-returns-clause-tree : goal.while_stat-returns-clause-tree
+while_stat-returns-clause-tree t c = rw (c.in-Ok.ensures.tree, c.looped.ensures, c.in_ok-test.ensures.tree, c.get.ensures) refl
+
+pub while_stat-returns-clause-scope : goal.while_stat-returns-clause-scope
+while_stat-returns-clause-scope t c = rw c.looped.ensures at c.in-Ok.ensures.scope
+
+pub while_stat-returns-clause-outer : goal.while_stat-returns-clause-outer
+while_stat-returns-clause-outer t c = c.in-Ok.ensures.outer
+
+pub do_stat-returns-clause-scope : goal.do_stat-returns-clause-scope
+do_stat-returns-clause-scope t c = rw c.looped.ensures at c.in_ok-body.ensures.scope
+
+pub do_stat-returns-clause-outer : goal.do_stat-returns-clause-outer
+do_stat-returns-clause-outer t c = c.in_ok-body.ensures.outer
+
+pub do_stat-returns-clause-tree : goal.do_stat-returns-clause-tree
+do_stat-returns-clause-tree t c = rw (c.in-Ok.ensures.tree, c.get.ensures, c.in_ok-body.ensures.tree, c.in_ok-body.ensures.scope, c.looped.ensures) refl
+
+pub for_stat-returns-clause-scope : goal.for_stat-returns-clause-scope
+for_stat-returns-clause-scope t c = c.leave.ensures ∙ ap left (rw (c.in_ok-made.ensures.scope, c.in_ok-enter.ensures.ok, c.looped.ensures) at c.in-Ok.ensures.scope)
+
+pub for_stat-returns-clause-outer : goal.for_stat-returns-clause-outer
+for_stat-returns-clause-outer t c = ap left (c.leave.ensures ∙ c.in-Ok.ensures.outer ∙ c.in_ok-made.ensures.outer ∙ ap left c.in_ok-enter.ensures.ok)
+
+pub for_stat-returns-clause-tree : goal.for_stat-returns-clause-tree
+for_stat-returns-clause-tree t c = rw (c.in_ok-made.ensures.begins, c.in_ok-made.ensures.test, c.in_ok-made.ensures.after, c.in-Ok.ensures.tree, c.in_ok-made.ensures.scope, c.in_ok-enter.ensures.ok, c.looped.ensures) refl
+
+pub inner-returns-clause-tree : goal.inner-returns-clause-tree
+inner-returns-clause-tree t c = rw (c.in_ok-tree.ensures.tree, c.in_ok-enter.ensures.ok) at c.boxed_stat.ensures
+
+pub otherwise-returns-in-None-clause-tree : goal.otherwise-returns-in-None-clause-tree
+otherwise-returns-in-None-clause-tree t c = rw c.in-None.is refl
+
+pub otherwise-returns-in-None-clause-scope : goal.otherwise-returns-in-None-clause-scope
+otherwise-returns-in-None-clause-scope t c = rw c.in-None.is refl
+
+pub otherwise-returns-in-None-clause-notes : goal.otherwise-returns-in-None-clause-notes
+otherwise-returns-in-None-clause-notes t c = rw c.in-None.is refl
+
+pub otherwise-returns-in_ok-tree-in-Some-clause-tree : goal.otherwise-returns-in_ok-tree-in-Some-clause-tree
+otherwise-returns-in_ok-tree-in-Some-clause-tree t c = rw c.in-Some.is (ap Some (rw c.get.ensures at c.in_ok-tree-in-Some.ensures.tree))
+
+pub otherwise-returns-in_ok-tree-in-Some-clause-scope : goal.otherwise-returns-in_ok-tree-in-Some-clause-scope
+otherwise-returns-in_ok-tree-in-Some-clause-scope t c = rw c.in-Some.is (rw c.get.ensures at c.in_ok-tree-in-Some.ensures.scope)
+
+pub otherwise-returns-in_ok-tree-in-Some-clause-notes : goal.otherwise-returns-in_ok-tree-in-Some-clause-notes
+otherwise-returns-in_ok-tree-in-Some-clause-notes t c = rw c.in-Some.is (rw c.get.ensures at c.in_ok-tree-in-Some.ensures.notes)
+
+pub otherwise-returns-in_ok-tree-in-Some-clause-outer : goal.otherwise-returns-in_ok-tree-in-Some-clause-outer
+otherwise-returns-in_ok-tree-in-Some-clause-outer t c = c.in_ok-tree-in-Some.ensures.outer
