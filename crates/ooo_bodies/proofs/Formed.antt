@@ -1,5 +1,5 @@
 -- Equations of expressions, form by form.
-use Rattle.std.proofs.Common.{◌≡◌, ◌∙◌, ap, subst, sym, Bool, List, [], ◌++◌, Option, Some, None, Result}
+use Rattle.std.proofs.Common.{◌≡◌, ◌∙◌, ap, subst, sym, Bool, List, [], ◌++◌, Option, Some, None, Result, Ok, Err}
 use Rattle.std.specs.Prelude.{IfOk, OnOk}
 use Rattle.std.specs.declared.alloc.AllocError.{AllocError}
 use Rattle.std.proofs.lemmas.Simd.{map-map}
@@ -18,7 +18,7 @@ use Rattle.ooo_checked.specs.declared.expr.CheckedExpr.TheVariants as expr
 use Rattle.ooo_checked.specs.declared.place.CallPlace.TheVariants.{Inside}
 use Rattle.ooo_checked.specs.Exprs.{binary_kind, call_of, choice_kind, expr_of, expr_step, exprs_of, index_of, kind_written, member_of, name_of, option_of, prefix_kind}
 use Rattle.ooo_checked.specs.Kinds.{kind_of}
-use Rattle.ooo_checked.specs.Notes.{Checked}
+use Rattle.ooo_checked.specs.Notes.{Checked, Note}
 use Rattle.ooo_checked.specs.Scopes.{Scope}
 use Rattle.ooo_bodies.specs.declared.notes.Notes.{Notes}
 use Rattle.ooo_bodies.specs.Noting.{noted}
@@ -106,6 +106,11 @@ module _ (s : Scope) where
     notes = (expr_of c s).notes ++ (expr_of a s).notes ++ (expr_of b s).notes;
   }
   expr_of-Choose c a b = ap (λ e. expr_of e s) (sym (tree.rolls-Choose c a b)) ∙ at_layer (layer.Choose c a b) s
+
+-- notes, and then others where what noted them made something
+pub noted_after : {T E : Type 0} (r : Result T E) (n m k : Notes) (xs ys : List Note) → m ≡ noted n xs → OnOk r (k ≡ noted m ys) → OnOk r (k ≡ noted n (xs ++ ys))
+noted_after (Ok x) n m k xs ys first second = second ∙ noted_two n m xs ys first
+noted_after (Err e) n m k xs ys first second = second
 
 -- the notes of both sides, one after the other
 pub noted-Binary : (op : BinaryOp) (e a b a' b' : Expr) (s : Scope) (n m k : Notes) → e ≡ tree.Binary op a b → a' ≡ a → b' ≡ b →

@@ -127,14 +127,9 @@ fn assign(
         ≡ noted notes.old (assign_of to.now op e.now scopes.now).notes) }
 {
     let is_compound = is_compound(op);
-    let to = target(alloc, is_compound, to, scopes, notes)?;
-    match value(alloc, is_compound, e, scopes, notes) {
-        Ok(value) => Ok(CheckedSimple::Assign(to, op, value)),
-        Err(error) => {
-            drop(to);
-            Err(error)
-        }
-    }
+    let to = got!(target(alloc, is_compound, to, scopes, notes));
+    let value = keeping!(to; value(alloc, is_compound, e, scopes, notes));
+    Ok(CheckedSimple::Assign(to, op, value))
 }
 
 // What a print writes.
