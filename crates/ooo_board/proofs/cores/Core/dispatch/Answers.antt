@@ -1,12 +1,43 @@
-use Rattle.std.proofs.Common.{refl, ◌∙◌, ◌<◌, sym, ap, subst, length, List}
+use Rattle.std.proofs.Common.{arith, refl, ◌∙◌, ◌<◌, sym, ap, subst, length, List}
 use Rattle.std.specs.Prelude.{All, slice_index_or}
 use Rattle.ooo_value.specs.declared.values.Value.{Value}
+use Rattle.ooo_code.specs.declared.design.Design.{Design}
 use Rattle.ooo_code.specs.declared.segment.Segment.{Segment}
 use Rattle.ooo_interp.specs.Carrying.{Carried}
 use Rattle.ooo_board.specs.Carrying.{taken_from}
+use Rattle.ooo_board.specs.Cores.{HasCore, MayDispatch}
+use Rattle.ooo_board.specs.Links.{AreLinks}
 use Rattle.ooo_board.proofs.Dispatched.{core_after}
 use Rattle.ooo_board.proofs.Handing.{copied_is, dispatched_so, entry_is, owned_is, parts_shared, places_within, process_there, segment_there}
 use Rattle.ooo_board.proofs.cores.Core.dispatch.Goals as goal
+
+pub parts-requires-clause-room : goal.parts-requires-clause-room
+parts-requires-clause-room c = c.requires.room
+
+pub parts-requires-clause-links : goal.parts-requires-clause-links
+parts-requires-clause-links c = subst (λ (d : Design). AreLinks d c.args.tables.now c.args.links.now) (sym c.deref.ensures) c.requires.links
+
+pub parts-requires-clause-may : goal.parts-requires-clause-may
+parts-requires-clause-may c =
+    let (steps, core, may) = c.requires.may in (
+      c.args.limits.now,
+      steps,
+      c.args.p,
+      subst (λ (d : Design). HasCore d c.args.limits.now c.args.tables.now steps c.args.self.now) (sym c.deref.ensures) core,
+      subst (λ (d : Design). MayDispatch d c.args.limits.now c.args.tables.now steps c.args.p c.args.front) (sym c.deref.ensures) may,
+    )
+
+pub index_mut-requires : goal.index_mut-requires
+index_mut-requires c =
+    let (steps, core, may) = c.requires.may in
+    let hand = c.parts_are_at_hand.ensures c.args.design.now.value c.args.limits.now c.args.tables.now steps c.args.p c.args.front core.stands may in
+    omega (arith, core.core.has_states.counted, hand.reach.within)
+
+pub index_mut-process-requires : goal.index_mut-process-requires
+index_mut-process-requires c =
+    let (steps, core, may) = c.requires.may in
+    let hand = c.parts_are_at_hand.ensures c.args.design.now.value c.args.limits.now c.args.tables.now steps c.args.p c.args.front core.stands may in
+    omega (arith, core.core.has_processes.counted, hand.reach.within)
 
 pub move_out-requires : goal.move_out-requires
 move_out-requires c =
