@@ -197,6 +197,12 @@ pub first_place : (p : ℕ) (entry : SegmentEntry) (segments : List Segment) (g 
     g ≡ position_or_len (begins_at p entry) segments
 first_place p entry segments g s lt is begins before = sym (position_or_len_is (begins_at p entry) segments g s (omega arith) (λ k below. before k s below) (λ h. ap (begins_at p entry) (sym is) ∙ begins))
 
+-- none before the next one does either
+pub none_before : (p : ℕ) (entry : SegmentEntry) (segments : List Segment) (g : ℕ) (s : Segment) → g < length segments → s ≡ get_or segments g s → begins_at p entry s ≡ false → ((k : ℕ) (d : Segment) → k < g → begins_at p entry (get_or segments k d) ≡ false) →
+    (k : ℕ) (d : Segment) → k < g + 1 → begins_at p entry (get_or segments k d) ≡ false
+none_before p entry segments g s lt is fails before k d below =
+    ⊎_elim (λ same. ap (λ i. begins_at p entry (get_or segments i d)) same ∙ ap (begins_at p entry) (get_or_default segments g d s lt ∙ sym is) ∙ fails) (λ differ. before k d (omega (arith, below, differ))) (cases_eq k g)
+
 -- somewhere one begins
 pub not_past : (l : Links) (segments : List Segment) (p : ℕ) (entry : SegmentEntry) → HasSegment l segments p entry → (g : ℕ) → length segments ≤ g → ((k : ℕ) (d : Segment) → k < g → begins_at p entry (get_or segments k d) ≡ false) → ⊥
 not_past l segments p entry h g past before =
