@@ -209,10 +209,10 @@ impl Engine {
             Turned design.now statements p o self.old self.new w) }
     {
         laws();
-        let halt = self.act(alloc, design, emitted, p, statements)?;
-        self.apply(&emitted.effects)?;
-        self.refresh(design, &emitted.effects)?;
-        self.note(&emitted.output, &emitted.effects)?;
+        let halt = got!(self.act(alloc, design, emitted, p, statements));
+        got!(self.apply(&emitted.effects));
+        got!(self.refresh(design, &emitted.effects));
+        got!(self.note(&emitted.output, &emitted.effects));
         self.close(alloc, p, halt)
     }
 }

@@ -17,6 +17,16 @@ macro_rules! keeping {
     };
 }
 
+// What was made, or the failure of it: the walk of a `?` on a large value costs more.
+macro_rules! got {
+    ($made:expr) => {
+        match $made {
+            Ok(found) => found,
+            Err(error) => return Err(error),
+        }
+    };
+}
+
 mod agenda;
 mod bank_fifos;
 mod cycles;
