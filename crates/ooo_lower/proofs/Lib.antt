@@ -7,3 +7,4 @@ mod Stated
 mod Left
 mod Apart
 mod Called
+mod Formed

@@ -59,35 +59,35 @@ pub(crate) fn lowered(alloc: Global, t: Around, e: &BoundExpr) -> Result<NodeExp
 {
     match e {
         BoundExpr::Constant(value) => Ok(NodeExpr::Constant(*value)),
-        BoundExpr::Local(kind, slot) => Ok(NodeExpr::Slot(slot_of(t, *kind, *slot)?)),
+        BoundExpr::Local(kind, slot) => Ok(NodeExpr::Slot(got!(slot_of(t, *kind, *slot)))),
         BoundExpr::Variable(variable) => Ok(NodeExpr::Variable(*variable)),
         BoundExpr::Element(variable, index) => {
-            Ok(NodeExpr::Element(*variable, boxed(alloc, t, index.get())?))
+            Ok(NodeExpr::Element(*variable, got!(boxed(alloc, t, index.get()))))
         }
         BoundExpr::Signal(channel) => Ok(NodeExpr::Signal(*channel)),
         BoundExpr::Changed(channel) => Ok(NodeExpr::Event(*channel)),
         BoundExpr::Edge(channel, up) => Ok(NodeExpr::Edge(*channel, *up)),
         BoundExpr::Available(channel) => Ok(NodeExpr::Available(*channel)),
         BoundExpr::Free(channel) => Ok(NodeExpr::Free(*channel)),
-        BoundExpr::Convert(kind, e) => Ok(NodeExpr::Convert(*kind, boxed(alloc, t, e.get())?)),
-        BoundExpr::Promote(e) => kept(alloc, boxed(alloc, t, e.get())?),
-        BoundExpr::Negate(e) => Ok(NodeExpr::Negate(boxed(alloc, t, e.get())?)),
-        BoundExpr::Invert(e) => Ok(NodeExpr::Invert(boxed(alloc, t, e.get())?)),
-        BoundExpr::Not(e) => Ok(NodeExpr::Not(boxed(alloc, t, e.get())?)),
+        BoundExpr::Convert(kind, e) => Ok(NodeExpr::Convert(*kind, got!(boxed(alloc, t, e.get())))),
+        BoundExpr::Promote(e) => kept(alloc, got!(boxed(alloc, t, e.get()))),
+        BoundExpr::Negate(e) => Ok(NodeExpr::Negate(got!(boxed(alloc, t, e.get())))),
+        BoundExpr::Invert(e) => Ok(NodeExpr::Invert(got!(boxed(alloc, t, e.get())))),
+        BoundExpr::Not(e) => Ok(NodeExpr::Not(got!(boxed(alloc, t, e.get())))),
         BoundExpr::Binary(op, a, b) => {
-            let (left, right) = operands(alloc, t, a.get(), b.get())?;
+            let (left, right) = got!(operands(alloc, t, a.get(), b.get()));
             Ok(NodeExpr::Binary(*op, left, right))
         }
         BoundExpr::Both(a, b) => {
-            let (left, right) = operands(alloc, t, a.get(), b.get())?;
+            let (left, right) = got!(operands(alloc, t, a.get(), b.get()));
             Ok(NodeExpr::And(left, right))
         }
         BoundExpr::Either(a, b) => {
-            let (left, right) = operands(alloc, t, a.get(), b.get())?;
+            let (left, right) = got!(operands(alloc, t, a.get(), b.get()));
             Ok(NodeExpr::Or(left, right))
         }
         BoundExpr::Choose(kind, test, a, b) => {
-            let test = boxed(alloc, t, test.get())?;
+            let test = got!(boxed(alloc, t, test.get()));
             let (left, right) = keeping!(test; operands(alloc, t, a.get(), b.get()));
             choice(alloc, *kind, test, left, right)
         }
@@ -100,7 +100,7 @@ pub(crate) fn lowered(alloc: Global, t: Around, e: &BoundExpr) -> Result<NodeExp
 fn boxed(alloc: Global, t: Around, e: &BoundExpr) -> Result<Boxed<NodeExpr>, AllocError>
     ensures { IfOk result (λ x. x ≡ lowered t e.now) }
 {
-    let tree = lowered(alloc, t, e)?;
+    let tree = got!(lowered(alloc, t, e));
     Boxed::new(alloc, tree)
 }
 
@@ -115,7 +115,7 @@ fn operands(
 ) -> Result<(Boxed<NodeExpr>, Boxed<NodeExpr>), AllocError>
     ensures { IfOk result (λ x. x ≡ (lowered t a.now, lowered t b.now)) }
 {
-    let left = boxed(alloc, t, a)?;
+    let left = got!(boxed(alloc, t, a));
     let right = keeping!(left; boxed(alloc, t, b));
     Ok((left, right))
 }
