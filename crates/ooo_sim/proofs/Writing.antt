@@ -175,3 +175,7 @@ took rest q asked r o old new is same gave ok =
 pub nothing_given : (rest : Option (List ℕ)) → GaveFirst 0 rest rest
 nothing_given None = tt
 nothing_given (Some bytes) = refl
+
+pub takes_none : {A E : Type 0} (r : Result A E) (rest : Option (List ℕ)) → IfOk r (λ _. GaveFirst 0 rest rest)
+takes_none (Ok a) rest = nothing_given rest
+takes_none (Err e) rest = tt

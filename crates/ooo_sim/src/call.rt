@@ -14,7 +14,7 @@ ghost use Rattle.ooo_sim.specs.declared.request.Request.TheVariants as request;
 use crate::law::one_reply;
 use crate::outcome::{Failure, Outcome, Refusal};
 use crate::pump::{ReadError, read_text, write_text};
-use crate::reply::{Answer, refuse, reply_to};
+use crate::reply::{Answer, Reply, refuse, reply_to};
 use crate::request::{Request, Told, Wanted, default_options, read_request};
 use crate::workers::run_text;
 use ooo_board::Board;
@@ -119,14 +119,28 @@ fn tell<Si: Sink>(sink: &mut Si, answer: Result<Answer, ReadError>) -> (Outcome,
     match answer {
         Err(ReadError::Failed) => (Outcome::Failed(Failure::Source), None),
         Err(ReadError::OutOfMemory) => (Outcome::Failed(Failure::OutOfMemory), None),
-        Ok(Answer { reply, board }) => {
+        Ok(answer) => {
             one_reply();
-            match write_text(sink, reply.text.as_slice()) {
-                Ok(()) => (Outcome::Replied(reply.verdict), unboxed(board)),
-                Err(Failed) => (Outcome::Failed(Failure::Sink), None),
+            match write_text(sink, answer.reply.text.as_slice()) {
+                Ok(()) => replied(answer),
+                Err(Failed) => {
+                    drop(answer);
+                    (Outcome::Failed(Failure::Sink), None)
+                }
             }
         }
     }
+}
+
+// How a call ended that wrote all of this answer, and its board.
+fn replied(answer: Answer) -> (Outcome, Option<Board>)
+    ensures outcome { result.0 ≡ outcome.Replied answer.reply.verdict }
+    ensures board { result.1 ≡ answer.board }
+{
+    let Answer { reply, board } = answer;
+    let Reply { verdict, text } = reply;
+    drop(text);
+    (Outcome::Replied(verdict), unboxed(board))
 }
 
 // A board of an answer, off the heap.

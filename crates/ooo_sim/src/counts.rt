@@ -1,7 +1,7 @@
 ghost use Rattle.std.specs.Prelude.{◌≡◌, IfOk};
 ghost use Rattle.ooo_sim.specs.Counts.{counts_line};
 
-use itoa::Buffer;
+use crate::lines::add_number;
 use std::alloc::{AllocError, Global};
 
 /// The line that says how many processes and segments a model has.
@@ -12,10 +12,9 @@ pub(crate) fn counts_line(
 ) -> Result<Vec<u8>, AllocError>
     ensures { IfOk result (λ line. line.items ≡ counts_line processes segments) }
 {
-    let mut line = Vec::from_slice(alloc, b"accepted processes ")?;
-    line.extend_from_slice(Buffer::new().format(processes).as_bytes())?;
-    line.extend_from_slice(b" segments ")?;
-    line.extend_from_slice(Buffer::new().format(segments).as_bytes())?;
-    line.push(b'\n')?;
+    let mut line = Vec::new(alloc);
+    keeping!(line; add_number(&mut line, b"accepted processes ", processes as u128));
+    keeping!(line; add_number(&mut line, b" segments ", segments as u128));
+    keeping!(line; line.extend_from_slice(b"\n"));
     Ok(line)
 }

@@ -1,4 +1,4 @@
-ghost use Rattle.std.specs.Prelude.{◌≡◌, ◌≢◌, ◌++◌, IfOk, OnOk};
+ghost use Rattle.std.specs.Prelude.{◌≡◌, ◌≢◌, ◌++◌, decimal, IfOk, OnOk};
 ghost use Rattle.ooo_front.specs.declared.answer.Refused.TheVariants as front;
 ghost use Rattle.ooo_sim.specs.Lines.{elaborate_line, layer_head, layer_line, names_text, refusal_line, text_line};
 ghost use Rattle.ooo_sim.specs.declared.outcome.Refusal.TheVariants as refusal;
@@ -48,7 +48,7 @@ fn layer_line(alloc: Global, layer: &str, name: &str, at: Position) -> Result<Ve
     ensures { IfOk result (λ line. line.items ≡ layer_line layer.now name.now at) }
 {
     let mut line = layer_head(alloc, layer, name, at)?;
-    line.push(b'\n')?;
+    keeping!(line; line.extend_from_slice(b"\n"));
     Ok(line)
 }
 
@@ -56,15 +56,27 @@ fn layer_line(alloc: Global, layer: &str, name: &str, at: Position) -> Result<Ve
 fn layer_head(alloc: Global, layer: &str, name: &str, at: Position) -> Result<Vec<u8>, AllocError>
     ensures { IfOk result (λ line. line.items ≡ layer_head layer.now name.now at) }
 {
-    let mut line = Vec::from_slice(alloc, b"refused ")?;
-    line.extend_from_slice(layer.as_bytes())?;
-    line.push(b' ')?;
-    line.extend_from_slice(name.as_bytes())?;
-    line.push(b' ')?;
-    line.extend_from_slice(Buffer::new().format(at.line).as_bytes())?;
-    line.push(b':')?;
-    line.extend_from_slice(Buffer::new().format(at.column).as_bytes())?;
+    let mut line = Vec::new(alloc);
+    keeping!(line; add_part(&mut line, b"refused ", layer.as_bytes()));
+    keeping!(line; add_part(&mut line, b" ", name.as_bytes()));
+    keeping!(line; add_number(&mut line, b" ", at.line as u128));
+    keeping!(line; add_number(&mut line, b":", at.column as u128));
     Ok(line)
+}
+
+/// Adds a text and a number behind it.
+pub(crate) fn add_number(line: &mut Vec<u8>, lead: &[u8], number: u128) -> Result<(), AllocError>
+    ensures { OnOk result (line.new.items ≡ line.old.items ++ lead.now ++ decimal number) }
+{
+    add_part(line, lead, Buffer::new().format(number).as_bytes())
+}
+
+// Adds a text and a part behind it.
+fn add_part(line: &mut Vec<u8>, lead: &[u8], part: &[u8]) -> Result<(), AllocError>
+    ensures { OnOk result (line.new.items ≡ line.old.items ++ lead.now ++ part.now) }
+{
+    line.extend_from_slice(lead)?;
+    line.extend_from_slice(part)
 }
 
 // Adds names, each behind a space.
@@ -83,7 +95,7 @@ fn elaborate_line(alloc: Global, refusal: &ooo_walk::Refusal) -> Result<Vec<u8>,
     ensures { IfOk result (λ line. line.items ≡ elaborate_line refusal.now) }
 {
     let mut line = layer_head(alloc, "elaborate", refusal.what.name(), refusal.at)?;
-    add_names(refusal.names.as_slice(), &mut line)?;
-    line.push(b'\n')?;
+    keeping!(line; add_names(refusal.names.as_slice(), &mut line));
+    keeping!(line; line.extend_from_slice(b"\n"));
     Ok(line)
 }

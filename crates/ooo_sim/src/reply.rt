@@ -83,7 +83,7 @@ pub(crate) fn refuse(alloc: Global, why: Refusal) -> Result<Reply, AllocError>
     ensures reply { IfOk result (λ r. r ≡ refused why) }
     ensures refused { OnOk result (why ≢ refusal.Text front.OutOfMemory) }
 {
-    let line = refusal_line(alloc, &why)?;
+    let line = keeping!(why; refusal_line(alloc, &why));
     Ok(Reply::new(Verdict::Refused(why), line))
 }
 
@@ -109,7 +109,11 @@ pub(crate) fn reply_to(alloc: Global, text: &[u8], wanted: Wanted) -> Result<Rep
     ensures { IfOk result (IsTextReply wanted text.now) }
 {
     match accept(alloc, text) {
-        Ok(accepted) => reply_to_accepted(alloc, &accepted, wanted),
+        Ok(accepted) => {
+            let reply = reply_to_accepted(alloc, &accepted, wanted);
+            drop(accepted);
+            reply
+        }
         Err(why) => refuse(alloc, why),
     }
 }
@@ -148,7 +152,8 @@ fn tables(alloc: Global, accepted: &Accepted) -> Result<Reply, AllocError>
     sound_design();
     let tables = Tables::make(alloc, &accepted.design)?;
     let names = accepted.bound.names.processes.as_slice();
-    let lines = text(alloc, &accepted.design, names, &tables)?;
+    let lines = keeping!(tables; text(alloc, &accepted.design, names, &tables));
+    drop(tables);
     Ok(Reply::new(Verdict::Done, lines))
 }
 

@@ -3,7 +3,7 @@ ghost use Rattle.std.specs.List.{sum};
 ghost use Rattle.ooo_history.specs.Reporting.{IsNamed, end_text, output_text};
 ghost use Rattle.ooo_sim.specs.Summaries.{byte_sum, entry_count, summary_text};
 
-use itoa::Buffer;
+use crate::lines::add_number;
 use ooo_history::{End, Entry, Piece, Run, report};
 use ooo_value::Names;
 use sqlite_items::Items;
@@ -17,16 +17,14 @@ pub(crate) fn summary(alloc: Global, run: &Run, names: &Names) -> Result<Vec<u8>
     requires { IsNamed run.now.end names.now.processes }
     ensures { IfOk result (λ text. text.items ≡ summary_text run.now names.now) }
 {
-    let mut text = Vec::from_slice(alloc, b"activations ")?;
-    text.extend_from_slice(Buffer::new().format(run.activations).as_bytes())?;
-    text.extend_from_slice(b" entries ")?;
+    let mut text = Vec::new(alloc);
+    keeping!(text; add_number(&mut text, b"activations ", run.activations));
     let entries = entry_count(run.channels.as_slice());
-    text.extend_from_slice(Buffer::new().format(entries).as_bytes())?;
-    text.extend_from_slice(b" sum ")?;
+    keeping!(text; add_number(&mut text, b" entries ", entries));
     let printed = byte_sum(run.pieces.as_slice());
-    text.extend_from_slice(Buffer::new().format(printed).as_bytes())?;
-    text.push(b'\n')?;
-    append_ending(alloc, &mut text, run.end, names)?;
+    keeping!(text; add_number(&mut text, b" sum ", printed as u128));
+    keeping!(text; text.extend_from_slice(b"\n"));
+    keeping!(text; append_ending(alloc, &mut text, run.end, names));
     Ok(text)
 }
 
@@ -47,8 +45,11 @@ fn append_ending(
         end,
         activations: 0,
     };
-    let report = report(alloc, &nothing, names)?;
-    text.extend_from_slice(&report[HEADLINES..])
+    let report = keeping!(nothing; report(alloc, &nothing, names));
+    drop(nothing);
+    let added = text.extend_from_slice(&report[HEADLINES..]);
+    drop(report);
+    added
 }
 
 // How many entries the histories have.

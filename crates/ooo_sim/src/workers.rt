@@ -4,6 +4,7 @@ ghost use Rattle.ooo_code.specs.Sound.{IsSound as IsSoundDesign};
 ghost use Rattle.ooo_front.specs.Layers.{HasFew};
 ghost use Rattle.ooo_plain.specs.Cycles.{AreInRange as AreRunLimits};
 ghost use Rattle.ooo_plain.specs.Running.{ShowsRun};
+ghost use Rattle.ooo_workers.specs.Boards.{Begins, IsQuiet};
 ghost use Rattle.ooo_words.specs.declared.command.RunOptions.{RunOptions as RunOptionsSpec};
 ghost use Rattle.ooo_words.specs.Limits.{AreWithinLimits, IsBetween, most_workers};
 ghost use Rattle.ooo_sim.specs.Boards.{IsAnswerOfRun, IsDriven, IsFresh, IsRunError, IsStarted, MayBeRun, MayBeTold};
@@ -120,12 +121,28 @@ fn driven<G: Gate, R: Threads + Wait + Sync>(
         limits,
         board,
     } = started;
-    let board = drive(rt, alloc, board, workers, gate)?;
+    let board = keeping!(model; drive_board(rt, alloc, board, workers, gate));
     once_over(ModelRun {
         model,
         limits,
         board,
     })
+}
+
+// A board that workers drove.
+fn drive_board<G: Gate, R: Threads + Wait + Sync>(
+    rt: &R,
+    alloc: Global,
+    board: Board,
+    workers: u32,
+    gate: &G,
+) -> Result<Board, RunError>
+    requires workers { IsBetween 1 most_workers workers }
+    requires board { IsQuiet board }
+    ensures begins { IfOk result (Begins board) }
+    ensures memory { IfErr result (λ error. error ≡ run_error.OutOfMemory) }
+{
+    Ok(drive(rt, alloc, board, workers, gate)?)
 }
 
 // A text's model and the board of its run, before any step.
@@ -204,7 +221,9 @@ fn told_of(alloc: Global, told: Told, run: ModelRun) -> Result<Answer, AllocErro
     ensures board { IfOk result (λ a. a.board ≡ Some run.board) }
 {
     let reply = keeping!(run; reply_of(alloc, told, &run));
-    Answer::with_board(alloc, reply, run.board)
+    let ModelRun { model, board, .. } = run;
+    drop(model);
+    Answer::with_board(alloc, reply, board)
 }
 
 // The reply that tells of a run whose board is over.

@@ -12,9 +12,9 @@ returns-in-Err-OutOfMemory-clause-written g c asked rest from = failed_first ask
 
 pub returns-in-Ok-write_text-clause-written : goal.returns-in-Ok-write_text-clause-written
 returns-in-Ok-write_text-clause-written g c asked rest from =
-    rw c.unboxed.ensures
-    (wrote_all c.one_reply.ensures asked rest c.in-Ok.field-0 (subst (λ r. IfOk r (IsAnswerFrom asked rest)) c.in-Ok.is from) _ _ (search rules))
+    rw (c.replied.ensures.outcome, c.replied.ensures.board)
+    (wrote_all c.one_reply.ensures asked rest c.in-Ok.answer (subst (λ r. IfOk r (IsAnswerFrom asked rest)) c.in-Ok.is from) _ _ (search rules))
 
 pub returns-in-Err-clause-written : goal.returns-in-Err-clause-written
 returns-in-Err-clause-written g c asked rest from =
-    wrote_prefix c.one_reply.ensures asked rest c.in-Ok.field-0 (subst (λ r. IfOk r (IsAnswerFrom asked rest)) c.in-Ok.is from) _ _ (search rules)
+    wrote_prefix c.one_reply.ensures asked rest c.in-Ok.answer (subst (λ r. IfOk r (IsAnswerFrom asked rest)) c.in-Ok.is from) _ _ (search rules)

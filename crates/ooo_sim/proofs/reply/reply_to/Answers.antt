@@ -3,7 +3,7 @@ use Rattle.ooo_sim.proofs.reply.reply_to.Goals as goal
 
 pub returns-in-Ok : goal.returns-in-Ok
 returns-in-Ok c =
-    all_accepted c.args.wanted c.args.text.now c.in-Ok.accepted c.in-Ok.ensures.accepted c.reply_to_accepted.result c.reply_to_accepted.ensures
+    all_accepted c.args.wanted c.args.text.now c.in-Ok.accepted c.in-Ok.ensures.accepted c.reply_to_accepted-reply.result c.reply_to_accepted-reply.ensures
 
 pub returns-in-Err : goal.returns-in-Err
 returns-in-Err c =
