@@ -29,6 +29,7 @@ macro_rules! got {
     };
 }
 
+mod lists;
 mod members;
 mod signs;
 mod units;

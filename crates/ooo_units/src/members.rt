@@ -1,12 +1,14 @@
-ghost use Rattle.std.specs.Prelude.{◌≡◌, IfOk};
+ghost use Rattle.std.specs.Prelude.{◌≡◌, true};
 ghost use Rattle.ooo_grammar.specs.Codes.{deeper};
 ghost use Rattle.ooo_grammar.specs.Combinators.{table};
+ghost use Rattle.ooo_grammar.specs.Forms.{nothing_r};
 ghost use Rattle.ooo_grammar.specs.Gives.{Gives, reads_at};
-ghost use Rattle.ooo_grammar.specs.Members.{channels, const_field, const_fields, const_member, field, field_form, function_tail, member, module_form, more_fields, part, parts, port_table, ports, typed_member, typed_tail, worded_tail};
+ghost use Rattle.ooo_grammar.specs.Members.{channels, const_field, const_fields, const_member, field, field_form, fields_of, function_tail, member, module_form, more_fields, part, parts, port_table, ports, typed_member, typed_tail, worded_tail};
 ghost use Rattle.ooo_simple.specs.Loops.{next_item};
 ghost use Rattle.ooo_declarations.specs.Loops.{one_more};
 ghost use Rattle.ooo_units.specs.Parts.{braced_members, clocks_member, events_member, further_fields, members, other_member, placed_member, process_member, public_member, some_parts, static_member, void_member};
 
+use crate::lists::added;
 use crate::signs::{begins_with_member, begins_with_port, port_of};
 use ooo_declarations::{
     begins_with_channel, read_args_inside, read_channel_word, read_constant_tail,
@@ -24,7 +26,7 @@ use ooo_syntax::{
     PortWord, Ports, ResultForm, Symbol, Terminal, TypeName, Word,
 };
 use sqlite_items::Items;
-use std::alloc::{AllocError, Global};
+use std::alloc::Global;
 
 // What follows a field's name.
 #[tactic(auto, using(ooo_grammar::specs::Steps::steps), unfolding(ooo_grammar::specs::Members::field_form))]
@@ -38,8 +40,8 @@ fn read_field_form<'a>(
     if starts(tokens, Terminal::OpenBracket) {
         let (_, rest) = got!(one(tokens, Terminal::OpenBracket, limits));
         let (length, rest) = got!(read_boxed_inner_value(alloc, rest, limits));
-        let (length, rest) = got!(followed(length, Terminal::CloseBracket, rest, limits));
-        return Ok((FieldForm::Length(length), rest));
+        let length = FieldForm::Length(length);
+        return followed(length, Terminal::CloseBracket, rest, limits);
     }
     if starts(tokens, Terminal::Assign) {
         let (_, rest) = got!(one(tokens, Terminal::Assign, limits));
@@ -71,7 +73,7 @@ fn read_next_field<'a>(
 {
     let (_, rest) = keeping!(list; one(tokens, Terminal::Comma, limits));
     let (more, rest) = keeping!(list; read_field(alloc, rest, limits));
-    Ok((with(list, more)?, rest))
+    added(list, more, rest)
 }
 
 // More fields, after the first one.
@@ -90,7 +92,7 @@ fn read_further_fields<'a>(
         if !starts(rest, Terminal::Comma) {
             return Ok((list, rest));
         }
-        let (more, after) = read_next_field(alloc, list, rest, limits)?;
+        let (more, after) = got!(read_next_field(alloc, list, rest, limits));
         list = more;
         rest = after;
     }
@@ -111,47 +113,59 @@ fn read_more_fields<'a>(
     followed(list, Terminal::Semicolon, rest, limits)
 }
 
+// Fields after `const`.
+fn all_const(form: TypeName, fields: Items<Field>) -> Member
+    ensures { result ≡ fields_of true form fields }
+{
+    Member::Fields(Fields {
+        is_const: true,
+        form,
+        fields,
+    })
+}
+
 // A declaration of one field after `const`: with a value it is a constant.
-fn const_field(alloc: Global, form: TypeName, field: Field) -> Result<Member, AllocError>
-    ensures { IfOk result (λ m. m ≡ const_field form field field.form) }
+fn const_field<'a>(
+    alloc: Global,
+    form: TypeName,
+    field: Field,
+    rest: &'a [Symbol<'a>],
+) -> Read<'a, Member>
+    ensures { Gives (nothing_r (const_field form field field.form) rest.now) result }
 {
     let Field { name, form: tail } = field;
     if let FieldForm::Value(value) = tail {
-        return Ok(Member::Constant(Constant {
+        let constant = Constant {
             is_static: false,
             form,
             name,
             value,
-        }));
+        };
+        return Ok((Member::Constant(constant), rest));
     }
-    let fields = with(Items::new(alloc), Field { name, form: tail })?;
-    Ok(Member::Fields(Fields {
-        is_const: true,
-        form,
-        fields,
-    }))
+    let fields = begun(alloc, Field { name, form: tail })?;
+    Ok((all_const(form, fields), rest))
 }
 
 // What `const` declares.
 #[tactic(auto, using(crate::proofs::Consts::several))]
-fn const_member(
+fn const_member<'a>(
     alloc: Global,
     form: TypeName,
     mut fields: Items<Field>,
-) -> Result<Member, AllocError>
-    ensures { IfOk result (λ m. m ≡ const_member form fields) }
+    rest: &'a [Symbol<'a>],
+) -> Read<'a, Member>
+    ensures { Gives (nothing_r (const_member form fields) rest.now) result }
 {
-    if let Some(last) = fields.pop() {
-        if fields.is_empty() {
-            return const_field(alloc, form, last);
-        }
-        fields.push(last)?;
+    let Some(last) = fields.pop() else {
+        return Ok((all_const(form, fields), rest));
+    };
+    if fields.is_empty() {
+        drop(fields);
+        return const_field(alloc, form, last, rest);
     }
-    Ok(Member::Fields(Fields {
-        is_const: true,
-        form,
-        fields,
-    }))
+    let fields = with(fields, last)?;
+    Ok((all_const(form, fields), rest))
 }
 
 // Fields or a constant, after `const`.
@@ -166,7 +180,7 @@ fn read_const_fields<'a>(
     let (form, rest) = got!(read_type(tokens, limits));
     let (first, rest) = got!(read_field(alloc, rest, limits));
     let (fields, rest) = got!(read_more_fields(alloc, first, rest, limits));
-    Ok((const_member(alloc, form, fields)?, rest))
+    const_member(alloc, form, fields, rest)
 }
 
 // A port's word.
@@ -230,7 +244,7 @@ fn read_next_part<'a>(
 {
     let (_, rest) = keeping!(list; one(tokens, Terminal::Comma, limits));
     let (more, rest) = keeping!(list; read_part(alloc, rest, limits));
-    Ok((with(list, more)?, rest))
+    added(list, more, rest)
 }
 
 // Parts.
@@ -379,8 +393,7 @@ fn read_public_member<'a>(tokens: &'a [Symbol<'a>], limits: Limits) -> Read<'a, 
     ensures { Gives (reads_at limits public_member tokens.now) result }
 {
     let (_, rest) = got!(one(tokens, Terminal::Public, limits));
-    let (_, rest) = got!(one(rest, Terminal::Colon, limits));
-    Ok((Member::Public, rest))
+    followed(Member::Public, Terminal::Colon, rest, limits)
 }
 
 // A constant that begins with `static`.
@@ -530,7 +543,7 @@ fn read_one_more_member<'a>(
     ensures { Gives (one_more limits member list tokens.now) result }
 {
     let (more, rest) = keeping!(list; read_member(alloc, tokens, limits));
-    Ok((with(list, more)?, rest))
+    added(list, more, rest)
 }
 
 // Members.
@@ -547,7 +560,7 @@ fn read_members<'a>(
         if !begins_with_member(rest) {
             return Ok((list, rest));
         }
-        let (more, after) = read_one_more_member(alloc, list, rest, limits)?;
+        let (more, after) = got!(read_one_more_member(alloc, list, rest, limits));
         list = more;
         rest = after;
     }
@@ -592,6 +605,5 @@ pub(crate) fn read_module_form<'a>(
     let (_, rest) = got!(one(tokens, Terminal::ScModule, limits));
     let (name, rest) = got!(read_parens_word(alloc, rest, limits));
     let (members, rest) = keeping!(name; read_braced_members(alloc, rest, limits));
-    let (members, rest) = keeping!(name; followed(members, Terminal::Semicolon, rest, limits));
-    Ok((Module { name, members }, rest))
+    followed(Module { name, members }, Terminal::Semicolon, rest, limits)
 }

@@ -5,6 +5,7 @@ ghost use Rattle.ooo_grammar.specs.Units.{library_table, main, main_body, main_c
 ghost use Rattle.ooo_declarations.specs.Loops.{one_more};
 ghost use Rattle.ooo_units.specs.Parts.{array_end, array_values, count_word, maybe_returned, maybe_start, maybe_word, pointer_values, unit_items};
 
+use crate::lists::added;
 use crate::members::read_module_form;
 use crate::signs::{begins_with_unit_item, library_of};
 use ooo_declarations::{read_constant, read_main_entries};
@@ -12,7 +13,7 @@ use ooo_grammar::{
     Limits, Read, ReadError, begins_with_word, next, one, one_inside, read_literal, read_word,
     starts,
 };
-use ooo_simple::{followed, none_yet, read_boxed_timed_inside, with};
+use ooo_simple::{followed, none_yet, read_boxed_timed_inside};
 use ooo_syntax::{
     Library, Main, MainValues, Mark, Number, StartForm, Symbol, Terminal, Unit, UnitItem, Word,
 };
@@ -58,8 +59,7 @@ fn read_pointer_values<'a>(
 {
     let (_, rest) = got!(one_inside(tokens, Terminal::Star, limits));
     let (word, rest) = got!(read_maybe_word_inside(alloc, rest, limits));
-    let (word, rest) = got!(followed(word, Terminal::Close, rest, limits));
-    Ok((MainValues::Pointer(word), rest))
+    followed(MainValues::Pointer(word), Terminal::Close, rest, limits)
 }
 
 // The brackets of an array, after its name.
@@ -73,8 +73,7 @@ fn read_array_end<'a>(
 {
     let (_, rest) = keeping!(word; one_inside(tokens, Terminal::OpenBracket, limits));
     let (_, rest) = keeping!(word; one_inside(rest, Terminal::CloseBracket, limits));
-    let (_, rest) = keeping!(word; one(rest, Terminal::Close, limits));
-    Ok((MainValues::Array(word), rest))
+    followed(MainValues::Array(word), Terminal::Close, rest, limits)
 }
 
 // The values of the parameters as an array.
@@ -157,12 +156,12 @@ fn read_start_tail<'a>(
     ensures { Gives (reads_at limits (start_tail first) tokens.now) result }
 {
     if starts(tokens, Terminal::Close) {
-        let (_, rest) = got!(one(tokens, Terminal::Close, limits));
-        return Ok((StartForm::Open(first.position), rest));
+        let form = StartForm::Open(first.position);
+        return followed(form, Terminal::Close, tokens, limits);
     }
     let (time, rest) = got!(read_boxed_timed_inside(alloc, tokens, limits));
-    let (time, rest) = got!(followed(time, Terminal::Close, rest, limits));
-    Ok((StartForm::Limited(first.position, time), rest))
+    let form = StartForm::Limited(first.position, time);
+    followed(form, Terminal::Close, rest, limits)
 }
 
 // `sc_start` and its time.
@@ -343,7 +342,7 @@ fn read_one_more_unit_item<'a>(
     ensures { Gives (one_more limits unit_item list tokens.now) result }
 {
     let (more, rest) = keeping!(list; read_unit_item(alloc, tokens, limits));
-    Ok((with(list, more)?, rest))
+    added(list, more, rest)
 }
 
 // The declarations of a file.
@@ -360,7 +359,7 @@ fn read_unit_items<'a>(
         if !begins_with_unit_item(rest) {
             return Ok((list, rest));
         }
-        let (more, after) = read_one_more_unit_item(alloc, list, rest, limits)?;
+        let (more, after) = got!(read_one_more_unit_item(alloc, list, rest, limits));
         list = more;
         rest = after;
     }

@@ -1,8 +1,6 @@
-use Rattle.std.proofs.Common.{sym, ap}
-use Rattle.ooo_syntax.specs.declared.module.Member.{Member}
-use Rattle.ooo_grammar.specs.Forms.{Got}
 use Rattle.ooo_grammar.specs.Members.{const_fields}
-use Rattle.ooo_grammar.specs.Steps.{stops_first, stops_second, got_second}
+use Rattle.ooo_grammar.specs.Steps.{stops_first, stops_second}
+use Rattle.ooo_simple.specs.Steps.{gives_second}
 use Rattle.ooo_units.proofs.members.read_const_fields.Goals as goal
 
 pub returns-in-Err : goal.returns-in-Err
@@ -19,4 +17,4 @@ returns-in-Err-read_more_fields c = stops_second _ _ c.in-Ok.ensures (stops_seco
 
 pub returns : goal.returns
 unfolding const_fields
-returns c = got_second _ c.in-Ok.ensures (got_second _ c.in-Ok-read_field.ensures (got_second _ c.in-Ok-read_more_fields.ensures (ap (λ (x : Member). Got x c.in-Ok-read_more_fields.found.1.now) (sym c.in_ok-const_member.ensures))))
+returns c = gives_second _ _ c.in-Ok.ensures (gives_second _ _ c.in-Ok-read_field.ensures (gives_second _ _ c.in-Ok-read_more_fields.ensures c.const_member.ensures))

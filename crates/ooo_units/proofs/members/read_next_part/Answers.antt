@@ -1,7 +1,5 @@
-use Rattle.std.proofs.Common.{List, sym, ap}
-use Rattle.ooo_syntax.specs.declared.module.Part.{Part}
-use Rattle.ooo_grammar.specs.Forms.{Got}
-use Rattle.ooo_grammar.specs.Steps.{stops_first, stops_second, got_second}
+use Rattle.ooo_grammar.specs.Steps.{stops_first, stops_second}
+use Rattle.ooo_simple.specs.Steps.{gives_second}
 use Rattle.ooo_units.proofs.members.read_next_part.Goals as goal
 
 pub returns-in-Err : goal.returns-in-Err
@@ -11,4 +9,4 @@ pub returns-in-Err-read_part : goal.returns-in-Err-read_part
 returns-in-Err-read_part c = stops_second _ _ c.in-Ok.ensures (stops_first _ _ _ c.in-Err-read_part.ensures)
 
 pub returns : goal.returns
-returns c = got_second _ c.in-Ok.ensures (got_second _ c.in-Ok-read_part.ensures (ap (λ (x : List Part). Got x c.in-Ok-read_part.found.1.now) (sym c.in_ok-with.ensures)))
+returns c = gives_second _ _ c.in-Ok.ensures (gives_second _ _ c.in-Ok-read_part.ensures c.added.ensures)

@@ -1,11 +1,9 @@
-use Rattle.std.proofs.Common.{List, sym, ap}
-use Rattle.ooo_syntax.specs.declared.module.Member.{Member}
-use Rattle.ooo_grammar.specs.Forms.{Got}
-use Rattle.ooo_grammar.specs.Steps.{stops_first, got_second}
+use Rattle.ooo_grammar.specs.Steps.{stops_first}
+use Rattle.ooo_simple.specs.Steps.{gives_second}
 use Rattle.ooo_units.proofs.members.read_one_more_member.Goals as goal
 
 pub returns-in-Err : goal.returns-in-Err
 returns-in-Err c = stops_first _ _ _ c.in-Err.ensures
 
 pub returns : goal.returns
-returns c = got_second _ c.in-Ok.ensures (ap (λ (x : List Member). Got x c.in-Ok.found.1.now) (sym c.in_ok-with.ensures))
+returns c = gives_second _ _ c.in-Ok.ensures c.added.ensures
