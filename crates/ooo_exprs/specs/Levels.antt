@@ -1,20 +1,22 @@
 -- The binary levels as readers, by the number of a level.
-use Rattle.std.specs.Prelude.{ℕ, ◌+◌, ◌-◌, Bool, true, false, if◌then◌else◌, List, [], ◌∷◌, ◌++◌, Option, None, drop}
+use Rattle.std.specs.Prelude.{ℕ, ◌+◌, ◌-◌, ◌≡◌, Bool, true, false, if◌then◌else◌, List, [], ◌∷◌, ◌++◌, Option, None, drop}
 use Rattle.ooo_syntax.specs.declared.symbol.Symbol.{Symbol}
 use Rattle.ooo_syntax.specs.declared.expr.Expr.{Expr}
 use Rattle.ooo_syntax.specs.declared.expr.Expr.TheVariants as expr
 use Rattle.ooo_syntax.specs.declared.expr.BinaryOp.{BinaryOp}
+use Rattle.ooo_syntax.specs.declared.expr.PrefixOp.{PrefixOp}
+use Rattle.ooo_syntax.specs.declared.terminal.Terminal.{Terminal}
 use Rattle.ooo_syntax.specs.declared.terminal.Terminal.TheVariants as terminal
 use Rattle.ooo_syntax.specs.declared.leaves.TypeForm.{TypeForm}
 use Rattle.ooo_syntax.specs.declared.leaves.TypeForm.TheVariants as form
 use Rattle.ooo_grammar.specs.Forms.{Outcome, Bad, Deep, Reader, then_r, mapped_r, repeats_r, one_r}
 use Rattle.ooo_grammar.specs.Sets.{Terminals, in_set, table_test}
 use Rattle.ooo_grammar.specs.Codes.{deeper}
-use Rattle.ooo_grammar.specs.Combinators.{Table, rows, terminals_of, quoted}
+use Rattle.ooo_grammar.specs.Combinators.{Table, led, rows, terminals_of, to, quoted}
 use Rattle.ooo_exprs.specs.declared.expressions.First.{First}
 use Rattle.ooo_exprs.specs.declared.expressions.First.TheVariants as first
 use Rattle.ooo_grammar.specs.declared.limits.Limits.{Limits}
-use Rattle.ooo_grammar.specs.Expressions.{binary_levels, unary, plain_unary, converted, operand, inner, chosen}
+use Rattle.ooo_grammar.specs.Expressions.{binary_levels, unary, plain_unary, prefixed, prefixed_by, converted, operand, inner, chosen}
 use Rattle.ooo_grammar.specs.Gives.{room_at, reads_at}
 use Rattle.ooo_grammar.specs.Readings.{Room, fits}
 
@@ -113,3 +115,11 @@ is_cast form.Bool closes = closes
 is_cast form.Int closes = closes
 is_cast form.Unsigned closes = closes
 is_cast _ closes = true
+
+-- the `)` that ends this expression, whose other tokens were read before
+abbrev pub closed : Expr → Limits → Reader Expr
+closed e l = reads_at l (to (λ _. e) (quoted terminal.Close))
+
+-- a prefix that begins here is read as one with this meaning and this sign
+abbrev pub IsPrefixBy : PrefixOp → Terminal → List Symbol → Type 0
+IsPrefixBy op sign ts = (l : Limits) → reads_at l prefixed ts ≡ reads_at l (led sign (prefixed_by op)) ts

@@ -5,7 +5,7 @@ ghost use Rattle.ooo_grammar.specs.Forms.{begins_with, nothing_r};
 ghost use Rattle.ooo_grammar.specs.Gives.{Gives, Stops, reads_at};
 ghost use Rattle.ooo_grammar.specs.Lexis.{named_type};
 ghost use Rattle.ooo_grammar.specs.Sets.{in_set};
-ghost use Rattle.ooo_exprs.specs.Levels.{expression_r, first_r, is_cast, is_inside, level_at, op_levels, others_of, refused};
+ghost use Rattle.ooo_exprs.specs.Levels.{IsPrefixBy, closed, expression_r, first_r, is_cast, is_inside, level_at, op_levels, others_of, refused};
 
 use crate::signs::{
     begins_with_expression, begins_with_plain, begins_with_prefix, begins_with_short_type,
@@ -93,7 +93,7 @@ fn read_close<'a>(
     tokens: &'a [Symbol<'a>],
     limits: Limits,
 ) -> Read<'a, Expr>
-    ensures { Gives (reads_at limits (to (λ _. Expr.Paren opening.position of) (quoted Terminal.Close)) tokens.now) result }
+    ensures { Gives (closed (Expr.Paren opening.position of) limits tokens.now) result }
 {
     let of = boxed(alloc, of)?;
     followed(
@@ -260,7 +260,7 @@ fn read_named<'a>(alloc: Global, tokens: &'a [Symbol<'a>], limits: Limits) -> Re
 // What a prefix means, and its sign: `+` where no other stands here.
 #[tactic(auto, unfolding(ooo_grammar::specs::Expressions::prefixed))]
 fn prefix_sign<'a>(tokens: &'a [Symbol<'a>]) -> (PrefixOp, Terminal)
-    ensures { (l : Limits) → reads_at l prefixed tokens.now ≡ reads_at l (led result.1 (prefixed_by result.0)) tokens.now }
+    ensures { IsPrefixBy result.0 result.1 tokens.now }
 {
     if starts(tokens, Terminal::Not) {
         return (PrefixOp::Not, Terminal::Not);
