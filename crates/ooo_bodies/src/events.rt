@@ -5,7 +5,7 @@ ghost use Rattle.ooo_checked.specs.Stats.{is_call_of, time_of};
 ghost use Rattle.ooo_bodies.specs.Noting.{noted};
 
 use crate::copies::{copy_word, resolve};
-use crate::exprs::expr;
+use crate::exprs::{expr, room};
 use crate::notes::Notes;
 use ooo_checked::{
     CheckedAwaited, CheckedEvent, CheckedTime, EventForm, Resolved, Thing, TypeBreach,
@@ -145,7 +145,7 @@ pub fn events(
     ensures notes { OnOk result (notes.new
         ≡ noted notes.old (all_notes (events_of in_sensitive es.now scopes.now))) }
 {
-    let mut all = Items::new(alloc);
+    let mut all = room(alloc, es.len())?;
     'parts: for e in es.as_slice() {
         let made = keeping!(all; event(alloc, in_sensitive, e, scopes, notes));
         keeping!(all; all.push(made));

@@ -1,4 +1,4 @@
-ghost use Rattle.std.specs.Prelude.{◌≡◌, IfOk, OnOk};
+ghost use Rattle.std.specs.Prelude.{◌≡◌, [], IfOk, OnOk};
 ghost use Rattle.ooo_checked.specs.Exprs.{call_of, expr_of, exprs_of, index_of, member_of, name_of, option_of, right_of, tree_of};
 ghost use Rattle.ooo_checked.specs.Exprs.{argument_notes, count_of};
 ghost use Rattle.ooo_checked.specs.Scopes.{Scope};
@@ -213,6 +213,13 @@ fn argument(
     }
 }
 
+// No part yet, with room for so many.
+pub(crate) fn room<T>(alloc: Global, count: usize) -> Result<Items<T>, AllocError>
+    ensures { IfOk result (λ all. all ≡ []) }
+{
+    Ok(Items::from_vec(Vec::with_capacity(alloc, count)?))
+}
+
 /// The expressions one after the other, with what their names denote; what is noted of them is kept.
 ///
 /// # Errors
@@ -230,7 +237,7 @@ pub fn exprs(
     ensures notes { OnOk result (notes.new
         ≡ noted notes.old (all_notes (exprs_of es.now scopes.now))) }
 {
-    let mut all = Items::new(alloc);
+    let mut all = room(alloc, es.len())?;
     'args: for e in es.as_slice() {
         let made = keeping!(all; expr(alloc, e, scopes, notes));
         keeping!(all; all.push(made));

@@ -9,7 +9,7 @@ ghost use Rattle.ooo_bodies.specs.Noting.{noted};
 
 use crate::copies::{copy_text, copy_word, resolve};
 use crate::events::{awaited, time};
-use crate::exprs::{boxed, expr, exprs, right_side};
+use crate::exprs::{boxed, expr, exprs, right_side, room};
 use crate::names::MemberCall;
 use crate::notes::Notes;
 use ooo_checked::{
@@ -164,7 +164,7 @@ fn items(
     ensures notes { OnOk result (notes.new
         ≡ noted notes.old (all_notes (items_of is.now scopes.now))) }
 {
-    let mut all = Items::new(alloc);
+    let mut all = room(alloc, is.len())?;
     'parts: for e in is.as_slice() {
         let made = keeping!(all; item(alloc, e, scopes, notes));
         keeping!(all; all.push(made));

@@ -1,4 +1,4 @@
-ghost use Rattle.std.specs.Prelude.{◌≡◌, [], None, IfOk, OnOk};
+ghost use Rattle.std.specs.Prelude.{◌≡◌, None, IfOk, OnOk};
 ghost use Rattle.ooo_checked.specs.Exprs.{option_of, tree_of};
 ghost use Rattle.ooo_checked.specs.Scopes.{entered, left};
 ghost use Rattle.ooo_checked.specs.Stats.{declarator_of, declarators_of, do_of, else_of, for_of, head_notes};
@@ -8,7 +8,7 @@ ghost use Rattle.ooo_checked.specs.Stats.{simple_of, stat_of, stats_of, step_of,
 ghost use Rattle.ooo_bodies.specs.Noting.{noted};
 
 use crate::copies::{copy_word, kind_written};
-use crate::exprs::{boxed, right_side};
+use crate::exprs::{boxed, right_side, room};
 use crate::notes::Notes;
 use crate::simple_stats::{boxed_option, boxed_simple, simple_stat};
 use ooo_checked::{
@@ -97,7 +97,7 @@ fn declarators(
         ≡ noted notes.old (declarators_of kind context names.now scopes.old).notes) }
     ensures outer { OnOk result (left scopes.new ≡ left scopes.old) }
 {
-    let mut all = Items::new(alloc);
+    let mut all = room(alloc, names.len())?;
     'parts: for e in names.as_slice() {
         let made = keeping!(all; declarator(alloc, kind, context, e, scopes, notes));
         keeping!(all; all.push(made));
@@ -389,13 +389,6 @@ fn block(
     let all = stats(alloc, context, body, scopes, notes)?;
     scopes.leave();
     Ok(all)
-}
-
-// No statement yet, with room for so many.
-fn room(alloc: Global, count: usize) -> Result<Items<CheckedStat>, AllocError>
-    ensures { IfOk result (λ all. all ≡ []) }
-{
-    Ok(Items::from_vec(Vec::with_capacity(alloc, count)?))
 }
 
 /// The statements of a body one after the other, with what their names denote; what is noted of them is kept, and the

@@ -6,7 +6,7 @@ ghost use Rattle.ooo_declarations.specs.Loops.{arg_step};
 ghost use Rattle.ooo_declarations.specs.Parts.{listed_args, maybe_args};
 
 use crate::signs::begins_with_arg;
-use ooo_exprs::read_boxed_value;
+use ooo_exprs::{begun, read_boxed_value};
 use ooo_grammar::{Limits, Read, one, read_text, starts};
 use ooo_simple::{
     begins_with_named_time, begins_with_unit_of_time, followed, read_boxed_named_time,
@@ -122,7 +122,7 @@ fn read_args<'a>(alloc: Global, tokens: &'a [Symbol<'a>], limits: Limits) -> Rea
     ensures { Gives (reads_at limits args tokens.now) result }
 {
     let (first, mut rest) = read_arg_part(alloc, tokens, limits)?;
-    let mut list = with(Items::new(alloc), first)?;
+    let mut list = begun(alloc, first)?;
     'turns: for _turn in 0..rest.len() {
         if !starts(rest, Terminal::Comma) {
             return Ok((list, rest));

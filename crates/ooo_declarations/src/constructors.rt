@@ -10,12 +10,12 @@ use crate::arguments::read_listed_args;
 use crate::params::read_name_and_params;
 use crate::signs::begins_with_setup;
 use crate::words::{read_parens_word, read_word_in_parens};
-use ooo_exprs::read_boxed_value;
+use ooo_exprs::{begun, read_boxed_value};
 use ooo_grammar::{
     Limits, Read, begins_with_member_word, one, one_inside, read_event_word, read_member_word,
     read_word, starts,
 };
-use ooo_simple::{begun, followed, none_yet, read_event, with};
+use ooo_simple::{followed, none_yet, read_event, with};
 use ooo_syntax::{Binding, Constructor, Event, Init, Member, Setup, Symbol, Terminal, Word};
 use sqlite_items::Items;
 use std::alloc::Global;

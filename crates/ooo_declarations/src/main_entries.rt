@@ -11,8 +11,9 @@ use crate::constants::read_constant;
 use crate::constructors::read_binding;
 use crate::signs::{begins_with_channel, begins_with_constant, begins_with_main_entry};
 use crate::words::{read_channel_word, read_of_type};
+use ooo_exprs::begun;
 use ooo_grammar::{Limits, Read, begins_with_word, one, read_text, read_word, starts};
-use ooo_simple::{begun, followed, none_yet, read_boxed_timed, with};
+use ooo_simple::{followed, none_yet, read_boxed_timed, with};
 use ooo_syntax::{Arg, ChannelWord, MainChannel, MainItem, Mark, Symbol, Terminal, TypeName, Word};
 use ooo_value::Name;
 use sqlite_items::Items;
@@ -314,13 +315,6 @@ fn read_instances_of<'a>(
 
 // ---- all of them
 
-// One declaration or binding as a list.
-fn only(alloc: Global, item: MainItem) -> Result<Items<MainItem>, AllocError>
-    ensures { IfOk result (λ list. list ≡ item ∷ []) }
-{
-    with(Items::new(alloc), item)
-}
-
 // The declarations up to the next `;`, or a binding.
 #[tactic(auto, using(ooo_grammar::specs::Steps::steps), unfolding(ooo_grammar::specs::Units::main_entry))]
 fn read_main_entry<'a>(
@@ -332,7 +326,7 @@ fn read_main_entry<'a>(
 {
     if begins_with_constant(tokens) {
         let (constant, rest) = got!(read_constant(alloc, tokens, limits));
-        return Ok((only(alloc, MainItem::Constant(constant))?, rest));
+        return Ok((begun(alloc, MainItem::Constant(constant))?, rest));
     }
     if begins_with_channel(tokens) {
         return read_main_channels(alloc, tokens, limits);
@@ -345,7 +339,7 @@ fn read_main_entry<'a>(
         return read_instances_of(alloc, &word, rest, limits);
     }
     let (binding, rest) = got!(read_binding(alloc, word, rest, limits));
-    Ok((only(alloc, MainItem::Bind(binding))?, rest))
+    Ok((begun(alloc, MainItem::Bind(binding))?, rest))
 }
 
 // Both lists one after the other.

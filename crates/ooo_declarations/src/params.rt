@@ -4,8 +4,9 @@ ghost use Rattle.ooo_grammar.specs.Members.{name_and_params, param, params};
 ghost use Rattle.ooo_simple.specs.Loops.{next_item};
 ghost use Rattle.ooo_declarations.specs.Parts.{further_params, listed_params, named_params, some_params};
 
+use ooo_exprs::begun;
 use ooo_grammar::{Limits, Read, begins_with_type, one, read_type, read_word, starts};
-use ooo_simple::{begun, followed, none_yet, with};
+use ooo_simple::{followed, none_yet, with};
 use ooo_syntax::{Param, Symbol, Terminal, Word};
 use sqlite_items::Items;
 use std::alloc::Global;

@@ -7,8 +7,9 @@ ghost use Rattle.ooo_simple.specs.Loops.{next_item};
 ghost use Rattle.ooo_declarations.specs.Parts.{parens_word, some_words};
 
 use crate::signs::channel_of;
+use ooo_exprs::begun;
 use ooo_grammar::{Limits, Read, ReadError, next, one, read_type, read_word, starts};
-use ooo_simple::{begun, followed, with};
+use ooo_simple::{followed, with};
 use ooo_syntax::{ChannelWord, Symbol, Terminal, TypeName, Word};
 use sqlite_items::Items;
 use std::alloc::Global;

@@ -7,6 +7,7 @@ ghost use Rattle.ooo_grammar.specs.Lexis.{named_type};
 ghost use Rattle.ooo_grammar.specs.Sets.{in_set};
 ghost use Rattle.ooo_exprs.specs.Levels.{IsPrefixBy, closed, expression_r, first_r, is_cast, is_inside, level_at, op_levels, others_of, refused};
 
+use crate::lists::begun;
 use crate::signs::{
     begins_with_expression, begins_with_plain, begins_with_prefix, begins_with_short_type,
     begins_with_truth, op_of_level,
@@ -193,7 +194,7 @@ fn read_some<'a>(alloc: Global, tokens: &'a [Symbol<'a>], limits: Limits) -> Rea
     ensures { Gives (reads_at limits some_expressions tokens.now) result }
 {
     let (first, mut rest) = got!(read_inner(alloc, tokens, limits));
-    let mut list = with(Items::new(alloc), first)?;
+    let mut list = begun(alloc, first)?;
     'turns: for _turn in 0..rest.len() {
         if !starts(rest, Terminal::Comma) {
             return Ok((list, rest));

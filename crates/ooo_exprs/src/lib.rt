@@ -25,8 +25,10 @@ macro_rules! got {
 }
 
 mod expressions;
+mod lists;
 mod own;
 mod signs;
 
+pub use lists::begun;
 pub use own::{read_boxed_inner_value, read_boxed_value, read_inner_value, read_sum, read_value};
 pub use signs::begins_with_expression;

@@ -6,7 +6,8 @@ ghost use Rattle.ooo_simple.specs.Loops.{next_item};
 ghost use Rattle.ooo_simple.specs.Spelled.{event_of};
 
 use crate::keeping::followed;
-use crate::lists::{added, begun, with};
+use crate::lists::{added, with};
+use ooo_exprs::begun;
 use ooo_grammar::{Limits, Read, one, read_member_word, read_word, starts};
 use ooo_syntax::{BinaryOp, Event, Expr, Symbol, Terminal, Word};
 use ooo_value::Name;

@@ -43,7 +43,7 @@ pub use heads::{
     read_condition, read_ended_value, read_for_first, read_for_step, read_for_test, read_parens,
 };
 pub use keeping::followed;
-pub use lists::{begun, none_yet, with};
+pub use lists::{none_yet, with};
 pub use locals::read_boxed_local;
 pub use signs::{begins_with_named_time, begins_with_simple, begins_with_unit_of_time};
 pub use simple::read_boxed_simple;

@@ -7,13 +7,6 @@ use ooo_syntax::Symbol;
 use sqlite_items::Items;
 use std::alloc::{AllocError, Global};
 
-/// A list of one item, to which more are added.
-pub fn begun<T: Drop>(alloc: Global, first: T) -> Result<Items<T>, AllocError>
-    ensures { IfOk result (λ all. all ≡ first ∷ []) }
-{
-    with(Items::new(alloc), first)
-}
-
 /// A list with one more item.
 pub fn with<T: Drop>(mut list: Items<T>, more: T) -> Result<Items<T>, AllocError>
     ensures { IfOk result (λ all. all ≡ list ++ more ∷ []) }

@@ -5,8 +5,8 @@ ghost use Rattle.ooo_grammar.specs.Gives.{Gives, reads_at};
 ghost use Rattle.ooo_simple.specs.Loops.{next_item};
 
 use crate::keeping::on_heap;
-use crate::lists::{added, begun};
-use ooo_exprs::read_value;
+use crate::lists::added;
+use ooo_exprs::{begun, read_value};
 use ooo_grammar::{Limits, Read, one, read_type, read_word, starts};
 use ooo_syntax::{Declarator, Local, Symbol, Terminal};
 use sqlite_items::{Boxed, Items};

@@ -5,8 +5,8 @@ ghost use Rattle.ooo_grammar.specs.Gives.{Gives, reads_at};
 ghost use Rattle.ooo_simple.specs.Loops.{next_item};
 
 use crate::keeping::followed;
-use crate::lists::{added, begun};
-use ooo_exprs::read_sum;
+use crate::lists::added;
+use ooo_exprs::{begun, read_sum};
 use ooo_grammar::{Limits, Read, one, read_text, starts};
 use ooo_syntax::{PrintItem, Simple, Symbol, Terminal};
 use sqlite_items::Items;

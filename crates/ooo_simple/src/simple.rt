@@ -9,12 +9,12 @@ ghost use Rattle.ooo_simple.specs.Loops.{next_inside};
 ghost use Rattle.ooo_simple.specs.Parts.{cancel_call, member_call, next_trigger_call, notify_call, step_before, stop_call, wait_call};
 
 use crate::keeping::{followed, on_heap};
-use crate::lists::{added, begun};
+use crate::lists::added;
 use crate::prints::read_print;
 use crate::signs::assign_of;
 use crate::times::read_timed_inside;
 use crate::waits::read_awaiting;
-use ooo_exprs::{begins_with_expression, read_inner_value, read_value};
+use ooo_exprs::{begins_with_expression, begun, read_inner_value, read_value};
 use ooo_grammar::{
     Limits, Read, ReadError, begins_with_word, next, one, one_inside, read_member_word, read_word,
     starts,

@@ -15,11 +15,11 @@ use ooo_declarations::{
     read_named_constructor, read_of_type, read_params, read_parens_word, read_word_in_parens,
     read_words, read_written_constructor,
 };
-use ooo_exprs::{read_boxed_inner_value, read_boxed_value};
+use ooo_exprs::{begun, read_boxed_inner_value, read_boxed_value};
 use ooo_grammar::{
     Limits, Read, ReadError, begins_with_type, next, one, read_type, read_word, starts,
 };
-use ooo_simple::{begun, followed, none_yet, with};
+use ooo_simple::{followed, none_yet, with};
 use ooo_statements::read_body;
 use ooo_syntax::{
     Channels, Children, Constant, Field, FieldForm, Fields, Function, Member, Module, Part,

@@ -12,7 +12,7 @@ returns-in-Err c = rw (sym c.begins_with_constant.ensures ∙ c.if-begins_with_c
 
 pub returns-then-begins_with_constant : goal.returns-then-begins_with_constant
 unfolding main_entry
-returns-then-begins_with_constant c = rw (sym c.begins_with_constant.ensures ∙ c.if-begins_with_constant.true) (got_second _ c.in-Ok.ensures (ap (λ (x : List MainItem). Got x c.in-Ok.found.1.now) (sym c.in_ok-only.ensures)))
+returns-then-begins_with_constant c = rw (sym c.begins_with_constant.ensures ∙ c.if-begins_with_constant.true) (got_second _ c.in-Ok.ensures (ap (λ (x : List MainItem). Got x c.in-Ok.found.1.now) (sym c.in_ok-begun.ensures)))
 
 pub returns-then-begins_with_channel : goal.returns-then-begins_with_channel
 unfolding main_entry
@@ -36,4 +36,4 @@ returns-in-Err-read_binding c = rw (sym c.begins_with_constant.ensures ∙ c.if-
 
 pub returns : goal.returns
 unfolding main_entry
-returns c = rw (sym c.begins_with_constant.ensures ∙ c.if-begins_with_constant.false, sym c.begins_with_channel.ensures ∙ c.if-begins_with_channel.false, sym c.starts.ensures ∙ c.if-starts.false) (got_second _ c.in-Ok-read_word.ensures (rw (sym c.begins_with_word.ensures ∙ c.if-begins_with_word.false) (got_second _ c.in-Ok-read_binding.ensures (ap (λ (x : List MainItem). Got x c.in-Ok-read_binding.found.1.now) (sym c.in_ok-only-2.ensures)))))
+returns c = rw (sym c.begins_with_constant.ensures ∙ c.if-begins_with_constant.false, sym c.begins_with_channel.ensures ∙ c.if-begins_with_channel.false, sym c.starts.ensures ∙ c.if-starts.false) (got_second _ c.in-Ok-read_word.ensures (rw (sym c.begins_with_word.ensures ∙ c.if-begins_with_word.false) (got_second _ c.in-Ok-read_binding.ensures (ap (λ (x : List MainItem). Got x c.in-Ok-read_binding.found.1.now) (sym c.in_ok-begun-2.ensures)))))

@@ -1,4 +1,4 @@
-use Rattle.std.proofs.Common.{[], ◌∷◌, ◌++◌, ◌∙◌, arith, rules, suc, ◌+◌, ◌-◌, ◌≡◌, List, length, Option, Some, None, Ok, Err, refl, sym, ap, subst}
+use Rattle.std.proofs.Common.{[], ◌∷◌, ◌∙◌, arith, rules, suc, ◌+◌, ◌-◌, ◌≡◌, List, length, Option, Some, None, Ok, Err, refl, sym, ap, subst}
 use Rattle.ooo_syntax.specs.declared.terminal.Terminal.TheVariants as terminal
 use Rattle.ooo_syntax.specs.declared.expr.Expr.{Expr}
 use Rattle.ooo_syntax.specs.declared.expr.Expr.TheVariants as expr
@@ -138,7 +138,7 @@ read_some-returns-in-Err t c = stops_first _ _ _ c.in-Err.ensures
 pub read_some-turns-init : goal.read_some-turns-init
 unfolding some_expressions
 read_some-turns-init t c =
-    loop_begins (in_set (terminal.Comma ∷ [])) (item_step c.args.limits) (λ b. b ∷ []) (reads_at c.args.limits inner c.args.tokens.now) _ c.in-Ok.found.0 _ c.in-Ok.found.1.now c.in-Ok.ensures (c.in_ok-list.ensures ∙ ap (λ (es : List Expr). es ++ c.in-Ok.found.0 ∷ []) c.new.ensures) (omega arith)
+    loop_begins (in_set (terminal.Comma ∷ [])) (item_step c.args.limits) (λ b. b ∷ []) (reads_at c.args.limits inner c.args.tokens.now) _ c.in-Ok.found.0 _ c.in-Ok.found.1.now c.in-Ok.ensures c.in_ok-list.ensures (omega arith)
 
 pub read_some-turns-preserved : goal.read_some-turns-preserved
 read_some-turns-preserved t c =
