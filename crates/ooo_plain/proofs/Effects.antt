@@ -16,7 +16,7 @@ use Rattle.ooo_channels.specs.Cycles.{Cycle, cycle_at, cycle_after, cycle_step, 
 use Rattle.ooo_channels.specs.Conditions.{MayApply, MayApplyAll}
 use Rattle.std.specs.Prelude.{slice_get}
 use Rattle.ooo_plain.proofs.Order.{is_before-no, IsBefore-irrefl}
-use Rattle.ooo_plain.proofs.Sights.{left_of, free_of, values_after_take, free_after_take, values_after_put, free_after_put}
+use Rattle.ooo_code.specs.OwnSteps.{SeesOwnSteps, left_of, free_of}
 
 -- ---- one effect
 
@@ -103,10 +103,10 @@ same_free b c free e = rw (eq-eqb b c e) refl
 other_free : (b c free : ℕ) → b ≢ c → free_of b c free ≡ free
 other_free b c free ne = rw (ne_eqb b c ne) refl
 
-pub room_put : (at : Stamp) (ops : Operations) (seen : List Seen) (b : ℕ) (v : Value) → HasRoomLeft at ops seen → HasRoomLeft at (after_effect at ops (effect.Put b v)) (seen_after_put seen b)
-room_put at ops seen b v h = record { values = values; free = free } where
+pub room_put : SeesOwnSteps → (at : Stamp) (ops : Operations) (seen : List Seen) (b : ℕ) (v : Value) → HasRoomLeft at ops seen → HasRoomLeft at (after_effect at ops (effect.Put b v)) (seen_after_put seen b)
+room_put sees at ops seen b v h = record { values = values; free = free } where
   values : (c : ℕ) → length (fifo_seen (seen_after_put seen b) c).values ≤ length (readable (channel_in at (after_effect at ops (effect.Put b v)) c))
-  values c = subst (λ xs. length xs ≤ length (readable (channel_in at (after_effect at ops (effect.Put b v)) c))) (sym (values_after_put seen b c))
+  values c = subst (λ xs. length xs ≤ length (readable (channel_in at (after_effect at ops (effect.Put b v)) c))) (sym (sees.values_after_put seen b c))
       (subst (λ x. length (fifo_seen seen c).values ≤ length (readable x)) (sym (channel_in-after at ops (effect.Put b v) c))
       (by_cases (λ x. length (fifo_seen seen c).values ≤ length (readable x)) (c == b) (put_into v (channel_in at ops c)) (channel_in at ops c)
       (subst (λ xs. length (fifo_seen seen c).values ≤ length xs) (sym (put_values v (channel_in at ops c))) (h.values c)) (h.values c)))
@@ -118,7 +118,7 @@ room_put at ops seen b v h = record { values = values; free = free } where
   there c ne = rw (other_free b c (fifo_seen seen c).free (λ e. ne (sym e)), ne_eqb c b ne) (h.free c)
 
   free : (c : ℕ) → (fifo_seen (seen_after_put seen b) c).free ≤ writable (channel_in at (after_effect at ops (effect.Put b v)) c)
-  free c = subst (λ n. n ≤ writable (channel_in at (after_effect at ops (effect.Put b v)) c)) (sym (free_after_put seen b c))
+  free c = subst (λ n. n ≤ writable (channel_in at (after_effect at ops (effect.Put b v)) c)) (sym (sees.free_after_put seen b c))
       (subst (λ x. free_of b c (fifo_seen seen c).free ≤ writable x) (sym (channel_in-after at ops (effect.Put b v) c))
       (⊎_elim (here c) (there c) (cases_eq c b)))
 
@@ -138,8 +138,8 @@ same_left b c values e = rw (eq-eqb b c e) refl
 other_left : (b c : ℕ) (values : List Value) → b ≢ c → left_of b c values ≡ values
 other_left b c values ne = rw (ne_eqb b c ne) refl
 
-pub room_take : (at : Stamp) (ops : Operations) (seen : List Seen) (b : ℕ) → HasRoomLeft at ops seen → HasRoomLeft at (after_effect at ops (effect.Take b)) (seen_after_take seen b)
-room_take at ops seen b h = record { values = values; free = free } where
+pub room_take : SeesOwnSteps → (at : Stamp) (ops : Operations) (seen : List Seen) (b : ℕ) → HasRoomLeft at ops seen → HasRoomLeft at (after_effect at ops (effect.Take b)) (seen_after_take seen b)
+room_take sees at ops seen b h = record { values = values; free = free } where
   here : (c : ℕ) → c ≡ b → length (left_of b c (fifo_seen seen c).values) ≤ length (readable (if c == b then taken_from (channel_in at ops c) else channel_in at ops c))
   here c e = rw (same_left b c (fifo_seen seen c).values (sym e), eq-eqb c b e) (let k = h.values c in let l = take_values (channel_in at ops c) in omega (arith, k, l, length-drop 1 (fifo_seen seen c).values))
 
@@ -147,12 +147,12 @@ room_take at ops seen b h = record { values = values; free = free } where
   there c ne = rw (other_left b c (fifo_seen seen c).values (λ e. ne (sym e)), ne_eqb c b ne) (h.values c)
 
   values : (c : ℕ) → length (fifo_seen (seen_after_take seen b) c).values ≤ length (readable (channel_in at (after_effect at ops (effect.Take b)) c))
-  values c = subst (λ xs. length xs ≤ length (readable (channel_in at (after_effect at ops (effect.Take b)) c))) (sym (values_after_take seen b c))
+  values c = subst (λ xs. length xs ≤ length (readable (channel_in at (after_effect at ops (effect.Take b)) c))) (sym (sees.values_after_take seen b c))
       (subst (λ x. length (left_of b c (fifo_seen seen c).values) ≤ length (readable x)) (sym (channel_in-after at ops (effect.Take b) c))
       (⊎_elim (here c) (there c) (cases_eq c b)))
 
   free : (c : ℕ) → (fifo_seen (seen_after_take seen b) c).free ≤ writable (channel_in at (after_effect at ops (effect.Take b)) c)
-  free c = subst (λ n. n ≤ writable (channel_in at (after_effect at ops (effect.Take b)) c)) (sym (free_after_take seen b c))
+  free c = subst (λ n. n ≤ writable (channel_in at (after_effect at ops (effect.Take b)) c)) (sym (sees.free_after_take seen b c))
       (subst (λ x. (fifo_seen seen c).free ≤ writable x) (sym (channel_in-after at ops (effect.Take b) c))
       (by_cases (λ x. (fifo_seen seen c).free ≤ writable x) (c == b) (taken_from (channel_in at ops c)) (channel_in at ops c)
       (subst (λ n. (fifo_seen seen c).free ≤ n) (sym (take_free (channel_in at ops c))) (h.free c)) (h.free c)))

@@ -7,6 +7,7 @@ use Rattle.ooo_time.specs.declared.time.Scale.{Scale}
 use Rattle.ooo_value.specs.Times.{is_time, ticks_in}
 use Rattle.ooo_value.specs.Operators.{Answer}
 use Rattle.ooo_value.specs.declared.operators.Fault.TheVariants.{BadTime}
+use Rattle.ooo_code.specs.OwnSteps.{SeesOwnSteps}
 use Rattle.ooo_code.specs.declared.expression.NodeExpr.{NodeExpr}
 use Rattle.ooo_time.specs.declared.time.Time.{Time}
 use Rattle.ooo_time.specs.declared.stamp.Stamp.{Stamp}
@@ -159,7 +160,7 @@ begins_well to seen h = tt
 
 -- ---- an activation
 
-module _ (design : Design) (process : Proc) (ops : Operations) (at : Stamp) (same_channels : ops.channels ≡ design.channels) (same_events : ops.events ≡ design.events)
+module _ (sees : SeesOwnSteps) (design : Design) (process : Proc) (ops : Operations) (at : Stamp) (same_channels : ops.channels ≡ design.channels) (same_events : ops.events ≡ design.events)
     (ordered : (fs : List Effect) → MayApplyAll ops at fs → (f : Effect) → Names (after_effects at ops fs) f → IsInOrder (after_effects at ops fs) at f) where
   -- what its method waits for next, where that was set
   abbrev pub FitsTrigger : Option WaitOn → Type 0
@@ -191,10 +192,10 @@ module _ (design : Design) (process : Proc) (ops : Operations) (at : Stamp) (sam
   light_fits f l d h names place = effect_fits f d d.seen d.slots h names place (room_light at (after_effects at ops d.effects) d.seen f l h.room)
 
   put_fits : (c : ℕ) (v : Value) (d : Doing) → IsFit d → HasChannel ops c channel.Fifo → 1 ≤ (fifo_seen d.seen c).free → IsFit (with_put c v d)
-  put_fits c v d h there free = effect_fits (effect.Put c v) d _ d.slots h there (let k = h.room.free c in omega (arith, free, k)) (room_put at (after_effects at ops d.effects) d.seen c v h.room)
+  put_fits c v d h there free = effect_fits (effect.Put c v) d _ d.slots h there (let k = h.room.free c in omega (arith, free, k)) (room_put sees at (after_effects at ops d.effects) d.seen c v h.room)
 
   take_fits : (c n : ℕ) (v : Value) (d : Doing) → IsFit d → HasChannel ops c channel.Fifo → 1 ≤ length (fifo_seen d.seen c).values → IsFit (with_take c n v d)
-  take_fits c n v d h there some = effect_fits (effect.Take c) d _ _ h there (let k = h.room.values c in omega (arith, some, k)) (room_take at (after_effects at ops d.effects) d.seen c h.room)
+  take_fits c n v d h there some = effect_fits (effect.Take c) d _ _ h there (let k = h.room.values c in omega (arith, some, k)) (room_take sees at (after_effects at ops d.effects) d.seen c h.room)
 
   -- what isn't seen from outside
   plain_fits : (d : Doing) (slots : List Value) (variables : List (List Value)) (output : List ℕ) → IsFit d → IsFit (record d { slots = slots; variables = variables; output = output })
@@ -383,14 +384,14 @@ module _ (design : Design) (process : Proc) (ops : Operations) (at : Stamp) (sam
           (ap (slice_get design.nodes) (sym (ap next_of h.is)) ∙ is))
 
 -- an activation of a process of a sound design fits
-pub activation_fits : (design : Design) (process : Proc) (ops : Operations) (p statements : ℕ) (frame : Frame) (v : View) → FitsProcess design process → slice_get design.processes p ≡ Some process
+pub activation_fits : SeesOwnSteps → (design : Design) (process : Proc) (ops : Operations) (p statements : ℕ) (frame : Frame) (v : View) → FitsProcess design process → slice_get design.processes p ≡ Some process
     → ops.channels ≡ design.channels → ops.events ≡ design.events
     → ((fs : List Effect) → MayApplyAll ops v.stamp fs → (f : Effect) → Names (after_effects v.stamp ops fs) f → IsInOrder (after_effects v.stamp ops fs) v.stamp f)
     → HasRoomLeft v.stamp ops v.seen → FitsEntry design process frame.entry → IsFitting design process ops v.stamp (by_nodes design statements p frame v)
-activation_fits design process ops p statements frame v fits is channels events ordered room enters =
+activation_fits sees design process ops p statements frame v fits is channels events ordered room enters =
     subst (λ o. IsFitting design process ops v.stamp (run_found design statements o frame v)) (sym is)
-    (steps_fit design process ops v.stamp channels events ordered frame.entry enters v.stamp fits statements (entry_node design process frame.entry)
-    (entry_own design process ops v.stamp channels events ordered frame.entry enters v.stamp fits frame.entry enters)
+    (steps_fit sees design process ops v.stamp channels events ordered frame.entry enters v.stamp fits statements (entry_node design process frame.entry)
+    (entry_own sees design process ops v.stamp channels events ordered frame.entry enters v.stamp fits frame.entry enters)
     (doing_at frame v)
     (record { names = All-nil _; may = tt; room = room; trigger = tt })
-    (entry_stands design process ops v.stamp channels events ordered frame.entry enters v.stamp fits frame.entry enters v.seen))
+    (entry_stands sees design process ops v.stamp channels events ordered frame.entry enters v.stamp fits frame.entry enters v.seen))

@@ -8,7 +8,6 @@ pub mod Phases
 pub mod Asking
 pub mod Joining
 pub mod Waiting
-pub mod Sights
 pub mod Effects
 pub mod Fitting
 pub mod Seen

@@ -107,7 +107,7 @@ module _ (laws : Laws) (design : Design) (sound : IsSound design) (statements p 
 
   pub fitting : IsFitting design proc ops w.stamp o
   fitting =
-      activation_fits design proc ops p statements (get_or (frames_of old) p no_frame) (view_of p w) (fits laws design sound statements p old lt) (at_p laws design sound statements p old lt) m.of.channels m.of.events
+      activation_fits laws.sees design proc ops p statements (get_or (frames_of old) p no_frame) (view_of p w) (fits laws design sound statements p old lt) (at_p laws design sound statements p old lt) m.of.channels m.of.events
       (ordered laws ops w m.agrees p) (first_room laws ops w m.agrees p)
       (m.stands.entries p proc (get_or (frames_of old) p no_frame) (at_p laws design sound statements p old lt) (slice_get-get_or (frames_of old) p no_frame (let a = m.stands.frames_count in omega (arith, a, lt))))
 

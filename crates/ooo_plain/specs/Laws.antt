@@ -10,6 +10,7 @@ use Rattle.ooo_code.specs.declared.design.Proc.{Proc}
 use Rattle.ooo_code.specs.declared.limits.Limits.{Limits}
 use Rattle.ooo_code.specs.Dependence.{AgreeOn, DidTheSame, TouchesOnly}
 use Rattle.ooo_code.specs.Nodes.{by_nodes}
+use Rattle.ooo_code.specs.OwnSteps.{SeesOwnSteps}
 use Rattle.ooo_code.specs.Outcomes.{View, Deed}
 use Rattle.ooo_code.specs.Segments.{Accesses}
 use Rattle.ooo_meaning.specs.World.{World, slot_at, zero_stamp, update, settle, notified, after_deed}
@@ -33,4 +34,5 @@ pub record Laws : Type 0 where
   pub fires : (ops : Operations) (w : World) (e : ℕ) → Agrees ops w → HasEventAt ops e → IsFirstAfter (FiresAt ops e) w.stamp (due_of (slot_at (update w).slots e))
   pub in_order : (ops : Operations) (w : World) (f : Effect) → Agrees ops w → Names ops f → IsInOrder ops w.stamp f
   pub reads : (design : Design) (statements p : ℕ) (process : Proc) (frame : Frame) (v w : View) → slice_get design.processes p ≡ Some process → AgreeOn (Accesses design process frame.entry) v w → DidTheSame (Accesses design process frame.entry) (by_nodes design statements p frame v) (by_nodes design statements p frame w)
+  pub sees : SeesOwnSteps
   pub changes : (design : Design) (statements p : ℕ) (process : Proc) (frame : Frame) (v : View) → slice_get design.processes p ≡ Some process → TouchesOnly (Accesses design process frame.entry) v (by_nodes design statements p frame v)

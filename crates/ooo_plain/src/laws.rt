@@ -1,7 +1,7 @@
 ghost use Rattle.ooo_plain.specs.Laws.{Laws};
 
 use ooo_channels::law::{activates, fires, forgets, in_order, others_stay, settles, shows, starts};
-use ooo_code::law::{changes_what_is_touched, reads_what_is_touched};
+use ooo_code::law::{changes_what_is_touched, own_steps_are_seen, reads_what_is_touched};
 
 /// What holds of channels and of code. It does nothing.
 pub fn laws()
@@ -17,4 +17,5 @@ pub fn laws()
     in_order();
     reads_what_is_touched();
     changes_what_is_touched();
+    own_steps_are_seen();
 }
